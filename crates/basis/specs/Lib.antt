@@ -1,0 +1,5 @@
+pub mod Pick
+pub mod Refusals
+pub mod Bits
+pub mod Bytes
+pub mod BytesLaws

@@ -1,0 +1,13 @@
+-- A choice by a test: the first where the test holds, the second where it fails.
+use mathlib.Core.Path.{_≡_, refl, subst, ap}
+use mathlib.Core.Bool.{Bool, true, false}
+
+abbrev pub pick {ℓ} : {A : Type ℓ} → Bool → A → A → A
+pick true x y = x
+pick false x y = y
+
+pub on {ℓ} : {A : Type ℓ} {b : Bool} (x y : A) → b ≡ true → pick b x y ≡ x
+on x y e = ap (λ (b : Bool). pick b x y) e
+
+pub off {ℓ} : {A : Type ℓ} {b : Bool} (x y : A) → b ≡ false → pick b x y ≡ y
+off x y e = ap (λ (b : Bool). pick b x y) e
