@@ -1,0 +1,6 @@
+pub mod Ascii
+pub mod Numerals
+pub mod Put
+pub mod Written
+pub mod NumeralLaws
+pub mod PutLaws

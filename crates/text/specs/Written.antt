@@ -1,0 +1,31 @@
+-- What a function answers that writes a whole text into a lent buffer (document 01, refusal 7: "lent text buffer shorter than the
+-- text", returned and left: "length needed; nothing written"; and "Bytes behind a written text or output keep their content").
+use Prim.Native.Nat.{ℕ}
+use mathlib.Core.Path.{_≡_}
+use mathlib.Core.List.{List, [], _∷_, _++_}
+use lib.Dec.{leb}
+use lib.IntN.{pos}
+use lib.ListN.{length, drop}
+use Rattle.basis.specs.Pick.{pick}
+use Rattle.basis.specs.Refusals.{Answer}
+use Rattle.basis.specs.Refusals.Answer.{gives, refuses}
+use Rattle.text.specs.declared.Written.{Written}
+use Rattle.text.specs.declared.Written.the-variants.{Text, TooShort}
+
+-- The number of bytes written, or refusal 7 with the length needed.
+abbrev pub answer : Written → Answer ℕ
+answer (Text n) = gives n
+answer (TooShort n) = refuses 7 (pos n ∷ [])
+
+-- What putting the text `t` into the buffer `l` answers.
+unfoldable pub written : List ℕ → List ℕ → Answer ℕ
+written t l = pick (leb (length t) (length l)) (gives (length t)) (refuses 7 (pos (length t) ∷ []))
+
+-- What it leaves in the buffer.
+unfoldable pub overwritten : List ℕ → List ℕ → List ℕ
+overwritten t l = pick (leb (length t) (length l)) (t ++ drop (length t) l) l
+
+-- The contract of such a function: `r` is its reply and `m` what it leaves in the buffer `l`.
+pub record Writes (t l : List ℕ) (r : Written) (m : List ℕ) : Type 0 where
+  pub reply : answer r ≡ written t l
+  pub leaves : m ≡ overwritten t l
