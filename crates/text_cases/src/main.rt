@@ -1,0 +1,145 @@
+// Texts put into buffers of many lengths at many places. Each line has the buffer, which held dots before, between brackets,
+// and the place that was given back.
+
+// What is put: a byte, a number of blanks, or a number, alone or with the width that it is padded to.
+enum Piece {
+    Byte(u8),
+    Blanks(usize),
+    Decimal(u64),
+    Hex(u64),
+    DecimalLeft(u64, usize),
+    HexLeft(u64, usize),
+    DecimalRight(u64, usize),
+}
+
+fn put(out: &mut [u8], at: usize, piece: Piece) -> usize {
+    match piece {
+        Piece::Byte(b) => text::put_byte(out, at, b),
+        Piece::Blanks(n) => text::put_blanks(out, at, n),
+        Piece::Decimal(n) => text::put_decimal(out, at, n),
+        Piece::Hex(n) => text::put_hex(out, at, n),
+        Piece::DecimalLeft(n, width) => text::put_decimal_left(out, at, n, width),
+        Piece::HexLeft(n, width) => text::put_hex_left(out, at, n, width),
+        Piece::DecimalRight(n, width) => text::put_decimal_right(out, at, n, width),
+    }
+}
+
+fn shown(out: &[u8], place: usize) {
+    show::text(b"[");
+    show::text(out);
+    show::text(b"]");
+    show::number(place as u64);
+    show::end();
+}
+
+fn put_shown(out: &mut [u8], at: usize, piece: Piece) {
+    let place = put(out, at, piece);
+    shown(out, place);
+}
+
+fn case(length: usize, at: usize, piece: Piece) {
+    let mut buffer = [b'.'; 32];
+    if length <= 32 {
+        let start = 0;
+        put_shown(&mut buffer[start..length], at, piece);
+    }
+}
+
+fn string_shown(out: &mut [u8], at: usize, s: &[u8]) {
+    let place = text::put_bytes(out, at, s);
+    shown(out, place);
+}
+
+fn string(length: usize, at: usize, s: &[u8]) {
+    let mut buffer = [b'.'; 32];
+    if length <= 32 {
+        let start = 0;
+        string_shown(&mut buffer[start..length], at, s);
+    }
+}
+
+fn strings() {
+    show::text(b"a byte\n");
+    case(3, 0, Piece::Byte(b'x'));
+    case(3, 2, Piece::Byte(b'x'));
+    case(3, 3, Piece::Byte(b'x'));
+    case(0, 0, Piece::Byte(b'x'));
+    case(3, 18446744073709551614, Piece::Byte(b'x'));
+    case(3, 18446744073709551615, Piece::Byte(b'x'));
+    show::text(b"a byte string\n");
+    string(6, 0, b"abc");
+    string(6, 2, b"abc");
+    string(6, 4, b"abc");
+    string(6, 6, b"abc");
+    string(6, 1, b"");
+    string(0, 0, b"abc");
+    string(6, 18446744073709551614, b"abc");
+    show::text(b"blanks\n");
+    case(6, 0, Piece::Blanks(3));
+    case(6, 4, Piece::Blanks(0));
+    case(6, 4, Piece::Blanks(2));
+    case(6, 4, Piece::Blanks(3));
+    case(6, 7, Piece::Blanks(3));
+    case(6, 3, Piece::Blanks(18446744073709551615));
+    case(0, 0, Piece::Blanks(5));
+}
+
+fn numbers() {
+    show::text(b"decimal\n");
+    case(2, 0, Piece::Decimal(0));
+    case(2, 0, Piece::Decimal(9));
+    case(2, 0, Piece::Decimal(10));
+    case(4, 1, Piece::Decimal(99));
+    case(4, 1, Piece::Decimal(100));
+    case(4, 1, Piece::Decimal(1000));
+    case(12, 1, Piece::Decimal(4294967295));
+    case(0, 0, Piece::Decimal(4294967295));
+    case(20, 0, Piece::Decimal(18446744073709551615));
+    case(19, 0, Piece::Decimal(18446744073709551615));
+    case(21, 0, Piece::Decimal(18446744073709551615));
+    case(
+        4,
+        18446744073709551600,
+        Piece::Decimal(18446744073709551615),
+    );
+    show::text(b"hexadecimal\n");
+    case(4, 0, Piece::Hex(0));
+    case(4, 0, Piece::Hex(15));
+    case(4, 0, Piece::Hex(16));
+    case(6, 1, Piece::Hex(255));
+    case(6, 1, Piece::Hex(256));
+    case(6, 1, Piece::Hex(4096));
+    case(12, 1, Piece::Hex(4294967295));
+    case(18, 0, Piece::Hex(18446744073709551615));
+    case(17, 0, Piece::Hex(18446744073709551615));
+    case(0, 0, Piece::Hex(18446744073709551615));
+    case(4, 18446744073709551613, Piece::Hex(171));
+}
+
+fn columns() {
+    show::text(b"to the left\n");
+    case(8, 1, Piece::DecimalLeft(42, 6));
+    case(8, 1, Piece::DecimalLeft(123456, 6));
+    case(8, 0, Piece::DecimalLeft(1234567, 6));
+    case(8, 0, Piece::DecimalLeft(7, 0));
+    case(4, 1, Piece::DecimalLeft(42, 6));
+    case(4, 18446744073709551610, Piece::DecimalLeft(42, 20));
+    case(12, 0, Piece::HexLeft(0x4813, 10));
+    case(12, 0, Piece::HexLeft(0xffffffff, 10));
+    case(12, 0, Piece::HexLeft(0xffffffff, 4));
+    case(3, 0, Piece::HexLeft(1, 4));
+    show::text(b"to the right\n");
+    case(8, 1, Piece::DecimalRight(42, 6));
+    case(8, 1, Piece::DecimalRight(123456, 6));
+    case(8, 0, Piece::DecimalRight(1234567, 6));
+    case(8, 0, Piece::DecimalRight(7, 0));
+    case(4, 1, Piece::DecimalRight(42, 6));
+    case(6, 1, Piece::DecimalRight(42, 6));
+    case(4, 18446744073709551610, Piece::DecimalRight(42, 20));
+}
+
+fn main() {
+    strings();
+    numbers();
+    columns();
+}
