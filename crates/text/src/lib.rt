@@ -116,8 +116,8 @@ fn put_hex_digits(out: &mut [u8], at: usize, n: u64) -> usize
 pub fn put_decimal_left(out: &mut [u8], at: usize, n: u64, width: usize) -> usize
     ensures { λ r. ⌜ Put (now (out .entry)) at (left width (decimal n)) (now (out .exit)) r ⌝ }
 {
-    let next = put_decimal(out, at, n);
-    put_blanks(out, next, lacking(at, next, width))
+    let end = put_decimal(out, at, n);
+    put_blanks(out, end, lacking(at, end, width))
 }
 
 // A number in hexadecimal, with blanks behind it up to the width.
