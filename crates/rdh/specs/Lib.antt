@@ -1,1 +1,3 @@
 pub mod Subfields
+pub mod Layout
+pub mod LayoutLaws
