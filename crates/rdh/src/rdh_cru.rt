@@ -1,10 +1,16 @@
 // The whole header as the common readout unit (CRU) writes it: 64 bytes.
 ghost use mathlib.Core.Path.{_≡_};
+ghost use Rattle.rdh.specs.Layout.{decode};
+ghost use Rattle.rdh.specs.Refusals.{decodeAnswer};
 ghost use Rattle.rdh.specs.Subfields.{cruIdOf, dataFormatOf, dwOf};
+use crate::little_endian::read_u16;
+use crate::little_endian::read_u64;
 use crate::rdh0::Rdh0;
 use crate::rdh1::Rdh1;
 use crate::rdh2::Rdh2;
 use crate::rdh3::Rdh3;
+
+pub const RDH_CRU_SIZE_BYTES: usize = 64;
 
 // The number of the common readout unit, 12 bits, and of its data wrapper (dw), 4 bits above it.
 pub struct CruidDw(pub u16);
@@ -27,7 +33,35 @@ pub struct RdhCru {
     pub reserved2: u64,
 }
 
+pub enum FromBuf {
+    Rdh(RdhCru),
+    TooShort,
+}
+
 impl RdhCru {
+    // The header in the first 64 bytes of `buf`.
+    pub fn from_buf(buf: &[u8]) -> FromBuf
+        ensures { λ r. ⌜ decodeAnswer r ≡ decode (now (buf .entry)) ⌝ }
+    {
+        if buf.len() < RDH_CRU_SIZE_BYTES {
+            return FromBuf::TooShort;
+        }
+        FromBuf::Rdh(RdhCru {
+            rdh0: Rdh0::from_buf(buf),
+            offset_new_packet: read_u16(buf, 8),
+            memory_size: read_u16(buf, 10),
+            link_id: buf[12],
+            packet_counter: buf[13],
+            cruid_dw: CruidDw(read_u16(buf, 14)),
+            rdh1: Rdh1::from_buf(buf),
+            dataformat_reserved0: DataformatReserved(read_u64(buf, 24)),
+            rdh2: Rdh2::from_buf(buf),
+            reserved1: read_u64(buf, 40),
+            rdh3: Rdh3::from_buf(buf),
+            reserved2: read_u64(buf, 56),
+        })
+    }
+
     pub fn cru_id(self) -> u16
         ensures { λ r. ⌜ r ≡ cruIdOf (self .«cruid_dw» .0) ⌝ }
     {
