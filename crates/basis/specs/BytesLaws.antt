@@ -2,7 +2,7 @@
 use mathlib.Core.Path.{_≡_, refl, sym, ap, ap₂, _∙_}
 use mathlib.Core.List.{List, [], _∷_, _++_}
 use Prim.Native.Nat.{ℕ, zero, suc, _+_, _*_, _/_, _%_, _^_, _≤_, _<_}
-use native.Mathlib.Nat.{pow-succ'}
+use native.Mathlib.Nat.{pow-succ', suc-add, mul-assoc, mod-add-div, mod-lt, one-le-pow}
 use native.Mathlib.Omega.{arith}
 use lib.ListN.{length, take, drop, getD, length-drop}
 use lib.Seq.{take-add, take-at, drop-at, take-take, drop-drop, drop-cons, getD-take, getD-drop, length-take-le}
@@ -31,6 +31,27 @@ bytesOf-little (b ∷ s) h =
     let rest : (b + 256 * little s) / 256 ≡ little s = omega arith in
     ap₂ (λ (x : ℕ) (n : ℕ). x ∷ bytesOf (length s) n) first rest
     ∙ ap (λ (t : List ℕ). b ∷ t) (bytesOf-little s (λ k below. h (suc k) (omega arith)))
+
+-- the bytes of a number are those of its low part and, behind them, those of its high part
+pub bytesOf-join : (v w low high : ℕ) → low < 256 ^ v → bytesOf (v + w) (low + 256 ^ v * high) ≡ bytesOf v low ++ bytesOf w high
+unfolding bytesOf
+bytesOf-join zero w low high h =
+    let width : zero + w ≡ w = omega arith in
+    let number : low + 1 * high ≡ high = omega arith in
+    ap₂ bytesOf width number
+bytesOf-join (suc v) w low high h =
+    let power : 256 ^ suc v * high ≡ 256 * (256 ^ v * high) =
+    ap (λ (n : ℕ). n * high) (pow-succ' 256 v) ∙ mul-assoc 256 (256 ^ v) high in
+    let first : (low + 256 ^ suc v * high) % 256 ≡ low % 256 = omega arith in
+    let rest : (low + 256 ^ suc v * high) / 256 ≡ low / 256 + 256 ^ v * high = omega arith in
+    ap (λ (n : ℕ). bytesOf n (low + 256 ^ suc v * high)) (suc-add v w)
+    ∙ ap₂ (λ (b : ℕ) (n : ℕ). b ∷ bytesOf (v + w) n) first rest
+    ∙ ap (λ (t : List ℕ). low % 256 ∷ t) (bytesOf-join v w (low / 256) high (omega (arith, pow-succ' 256 v)))
+
+pub bytesOf-split : (v w n : ℕ) → bytesOf (v + w) n ≡ bytesOf v (n % 256 ^ v) ++ bytesOf w (n / 256 ^ v)
+bytesOf-split v w n =
+    ap (bytesOf (v + w)) (sym (mod-add-div n (256 ^ v)))
+    ∙ bytesOf-join v w (n % 256 ^ v) (n / 256 ^ v) (mod-lt n (one-le-pow v 256 (omega arith)))
 
 -- bytes in a row spell the number of the first ones and, above it, that of the others
 pub little-append : (s t : List ℕ) → little (s ++ t) ≡ little s + 256 ^ length s * little t
