@@ -1,1 +1,4 @@
 pub mod Subfields
+pub mod Layout
+pub mod LayoutLaws
+pub mod Refusals

@@ -1,6 +1,15 @@
 // The header's first word, RDH0: bytes 0 to 7.
 ghost use mathlib.Core.Path.{_≡_};
+ghost use mathlib.Core.List.{_++_};
+ghost use Prim.Native.Nat.{_≤_};
+ghost use lib.ListN.{length};
+ghost use lib.Seq.{sets};
+ghost use Rattle.basis.specs.Bytes.{bytesOf};
+ghost use Rattle.rdh.specs.Layout.{decoded};
 ghost use Rattle.rdh.specs.Subfields.{layerOf, staveOf, uplinkOf};
+use crate::little_endian::read_u16;
+use crate::little_endian::write_u8;
+use crate::little_endian::write_u16;
 
 // The FEE id, which packs the layer, the fibre uplink and the stave into 16 bits.
 pub struct FeeId(pub u16);
@@ -34,4 +43,34 @@ pub struct Rdh0 {
     pub priority_bit: u8,
     pub system_id: u8,
     pub reserved0: u16,
+}
+
+impl Rdh0 {
+    // The first word of the header that starts where `buf` does.
+    pub(crate) fn from_buf(buf: &[u8]) -> Rdh0
+        requires { ⌜ 64 ≤ length (now buf) ⌝ }
+        ensures { λ r. ⌜ r ≡ decoded (now (buf .entry)) .rdh0 ⌝ }
+    {
+        Rdh0 {
+            header_id: buf[0],
+            header_size: buf[1],
+            fee_id: FeeId(read_u16(buf, 2)),
+            priority_bit: buf[4],
+            system_id: buf[5],
+            reserved0: read_u16(buf, 6),
+        }
+    }
+
+    // Writes the word where it stands in a header that starts where `out` does.
+    pub(crate) fn write(self, out: &mut [u8])
+        requires { ⌜ 64 ≤ length (now out) ⌝ }
+        ensures { λ _. ⌜ now (out .exit) ≡ sets (now (out .entry)) 0 (bytesOf 1 (self .«header_id») ++ (bytesOf 1 (self .«header_size») ++ (bytesOf 2 (self .«fee_id» .0) ++ (bytesOf 1 (self .«priority_bit») ++ (bytesOf 1 (self .«system_id») ++ (bytesOf 2 (self .reserved0))))))) ⌝ }
+    {
+        write_u8(out, 0, self.header_id);
+        write_u8(out, 1, self.header_size);
+        write_u16(out, 2, self.fee_id.0);
+        write_u8(out, 4, self.priority_bit);
+        write_u8(out, 5, self.system_id);
+        write_u16(out, 6, self.reserved0);
+    }
 }

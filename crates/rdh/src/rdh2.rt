@@ -1,8 +1,46 @@
 // The header's fifth word, RDH2: bytes 32 to 39.
+ghost use mathlib.Core.Path.{_≡_};
+ghost use mathlib.Core.List.{_++_};
+ghost use Prim.Native.Nat.{_≤_};
+ghost use lib.ListN.{length};
+ghost use lib.Seq.{sets};
+ghost use Rattle.basis.specs.Bytes.{bytesOf};
+ghost use Rattle.rdh.specs.Layout.{decoded};
+use crate::little_endian::read_u16;
+use crate::little_endian::read_u32;
+use crate::little_endian::write_u8;
+use crate::little_endian::write_u16;
+use crate::little_endian::write_u32;
 
 pub struct Rdh2 {
     pub trigger_type: u32,
     pub pages_counter: u16,
     pub stop_bit: u8,
     pub reserved0: u8,
+}
+
+impl Rdh2 {
+    // The fifth word of the header that starts where `buf` does.
+    pub(crate) fn from_buf(buf: &[u8]) -> Rdh2
+        requires { ⌜ 64 ≤ length (now buf) ⌝ }
+        ensures { λ r. ⌜ r ≡ decoded (now (buf .entry)) .rdh2 ⌝ }
+    {
+        Rdh2 {
+            trigger_type: read_u32(buf, 32),
+            pages_counter: read_u16(buf, 36),
+            stop_bit: buf[38],
+            reserved0: buf[39],
+        }
+    }
+
+    // Writes the word where it stands in a header that starts where `out` does.
+    pub(crate) fn write(self, out: &mut [u8])
+        requires { ⌜ 64 ≤ length (now out) ⌝ }
+        ensures { λ _. ⌜ now (out .exit) ≡ sets (now (out .entry)) 32 (bytesOf 4 (self .«trigger_type») ++ (bytesOf 2 (self .«pages_counter») ++ (bytesOf 1 (self .«stop_bit») ++ (bytesOf 1 (self .reserved0))))) ⌝ }
+    {
+        write_u32(out, 32, self.trigger_type);
+        write_u16(out, 36, self.pages_counter);
+        write_u8(out, 38, self.stop_bit);
+        write_u8(out, 39, self.reserved0);
+    }
 }

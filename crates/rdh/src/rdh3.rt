@@ -1,7 +1,42 @@
 // The header's seventh word, RDH3: bytes 48 to 55.
+ghost use mathlib.Core.Path.{_≡_};
+ghost use mathlib.Core.List.{_++_};
+ghost use Prim.Native.Nat.{_≤_};
+ghost use lib.ListN.{length};
+ghost use lib.Seq.{sets};
+ghost use Rattle.basis.specs.Bytes.{bytesOf};
+ghost use Rattle.rdh.specs.Layout.{decoded};
+use crate::little_endian::read_u16;
+use crate::little_endian::read_u32;
+use crate::little_endian::write_u16;
+use crate::little_endian::write_u32;
 
 pub struct Rdh3 {
     pub detector_field: u32,
     pub par_bit: u16,
     pub reserved0: u16,
+}
+
+impl Rdh3 {
+    // The seventh word of the header that starts where `buf` does.
+    pub(crate) fn from_buf(buf: &[u8]) -> Rdh3
+        requires { ⌜ 64 ≤ length (now buf) ⌝ }
+        ensures { λ r. ⌜ r ≡ decoded (now (buf .entry)) .rdh3 ⌝ }
+    {
+        Rdh3 {
+            detector_field: read_u32(buf, 48),
+            par_bit: read_u16(buf, 52),
+            reserved0: read_u16(buf, 54),
+        }
+    }
+
+    // Writes the word where it stands in a header that starts where `out` does.
+    pub(crate) fn write(self, out: &mut [u8])
+        requires { ⌜ 64 ≤ length (now out) ⌝ }
+        ensures { λ _. ⌜ now (out .exit) ≡ sets (now (out .entry)) 48 (bytesOf 4 (self .«detector_field») ++ (bytesOf 2 (self .«par_bit») ++ (bytesOf 2 (self .reserved0)))) ⌝ }
+    {
+        write_u32(out, 48, self.detector_field);
+        write_u16(out, 52, self.par_bit);
+        write_u16(out, 54, self.reserved0);
+    }
 }

@@ -1,0 +1,21 @@
+-- The fields, written one behind the other, are the run of the word's bytes.
+use borrow.Author.Needs.{needs}
+use Rattle.basis.specs.Bytes.{bytesOf}
+use Rattle.rdh.proofs.rdh1.Rdh1.write.Statement.{statement}
+use Rattle.rdh.proofs.rdh1.Rdh1.write.Tie as tie
+
+write-u32-requires : tie.Need-write-u32-requires
+write-u32-requires c κs = search needs
+
+write-u32-requires-2 : tie.Need-write-u32-requires-2
+write-u32-requires-2 c κs = search needs
+
+same-length : tie.Need-same-length
+same-length c = search needs
+
+returns : tie.Need-returns
+unfolding bytesOf
+returns c = rw (c .before .before .write-u322 .ensures, c .before .before .before .before .before .before .write-u32 .ensures)
+
+pub write-spec : {M : Type 1} → statement M
+write-spec = tie.close (tie.spec write-u32-requires write-u32-requires-2 same-length returns)
