@@ -8,10 +8,16 @@ ghost use Rattle.row.specs.Row.{rdh0Text, rdh1Text, rdh2Text, rowText};
 ghost use Rattle.text.specs.Put.{Put};
 ghost use Rattle.text.specs.Written.{Writes};
 
-// Writes the row of `h` at the start of `out`.
+// The length of the longest row: a buffer of this length is never too short.
+const LONGEST_ROW: usize = 114;
+
+// Writes the row of `h` at the start of `out`. Where the buffer may be too short, the row is measured first.
 pub fn row(h: RdhCru, out: &mut [u8]) -> Written
     ensures { λ r. ⌜ Writes (rowText h) (now (out .entry)) r (now (out .exit)) ⌝ }
 {
+    if LONGEST_ROW <= out.len() {
+        return Written::Text(put_row(out, 0, h));
+    }
     let mut none = [0u8; 0];
     let need = put_row(&mut none, 0, h);
     if out.len() < need {

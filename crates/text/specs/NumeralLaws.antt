@@ -1,5 +1,5 @@
 -- Laws of numerals: the step that a writer takes from a number to its quotient, and their lengths.
-use Prim.Native.Nat.{ℕ, zero, suc, _+_, _-_, _*_, _/_, _%_, _^_, _≤_, _<_}
+use Prim.Native.Nat.{ℕ, zero, suc, _+_, _-_, _*_, _/_, _%_, _^_, _≤_, _<_, max}
 use mathlib.Core.Bool.{Bool, true, false}
 use mathlib.Core.Path.{_≡_, refl, ap, sym, _∙_, subst}
 use mathlib.Core.List.{List, [], _∷_, _++_}
@@ -7,10 +7,10 @@ use native.Mathlib.Nat.{pow-zero, pow-suc, div-lt-iff-lt-mul}
 use native.Mathlib.Omega.{arith}
 use borrow.Author.Tests.{ltb-true, ltb-false, le-ltb, lt-ltb}
 use lib.Dec.{ltb}
-use lib.ListN.{length, length-append}
+use lib.ListN.{length, length-append, length-replicate, replicate}
 use Rattle.basis.specs.Pick.{pick, on, off}
 use Rattle.text.specs.Ascii.{ascii}
-use Rattle.text.specs.Numerals.{numeral, glyph, decimal, hex}
+use Rattle.text.specs.Numerals.{numeral, glyph, decimal, hex, left}
 
 -- the quotient of a number of one digit more
 quotient-below : (base k n : ℕ) → 0 < base → n < base ^ suc k → n / base < base ^ k
@@ -69,3 +69,21 @@ numeral-room base (suc most) n = go (ltb n base) (numeral-room base most (n / ba
         → length (pick b (glyph n ∷ []) (numeral base most (n / base) ++ (glyph (n % base) ∷ []))) ≤ suc most
     go true ih = omega arith
     go false ih = omega (arith, length-append (numeral base most (n / base)) (glyph (n % base) ∷ []))
+
+pub length-left : (width : ℕ) (t : List ℕ) → length (left width t) ≡ max width (length t)
+unfolding left
+length-left width t = omega (arith, length-append t (replicate (width - length t) 32), length-replicate {A = ℕ} (width - length t) 32)
+
+-- a column that is wide enough for its number has just its width
+pub decimal-column : (width k n : ℕ) → n < 10 ^ suc k → suc k ≤ width → length (left width (decimal n)) ≡ width
+unfolding decimal
+decimal-column width k n small wide =
+    omega (arith, length-left width (numeral 10 20 n), length-numeral 10 20 k n (omega arith) small)
+
+pub length-hex : (k n : ℕ) → n < 16 ^ suc k → length (hex n) ≤ 3 + k
+unfolding hex
+length-hex k n small =
+    omega (arith, length-append (ascii "0x") (numeral 16 16 n), length-numeral 16 16 k n (omega arith) small)
+
+pub hex-column : (width k n : ℕ) → n < 16 ^ suc k → 3 + k ≤ width → length (left width (hex n)) ≡ width
+hex-column width k n small wide = omega (arith, length-left width (hex n), length-hex k n small)
