@@ -113,3 +113,7 @@ sets-filled l i a n b h full =
     go (suc rest) e =
         sets-out (replicate (suc rest) b) (sets l i (replicate a b)) (i + length (replicate a b))
         (omega (arith, full (omega arith), length-sets l i (replicate a b), length-replicate a b))
+
+-- no text behind a text
+pub ended : {l t m : List ℕ} {i j : ℕ} → Put l i t m j → Put m j [] m j
+ended {m = m} {j = j} p = put-nothing m j (omega (arith, p .room, same-length p)) (omega (arith, p .next))

@@ -1,0 +1,77 @@
+-- A validator, and what a check on it answers and leaves (document 01, "Verdict", and refusal 7).
+use Prim.Native.Nat.{ℕ, _≤_, _<_}
+use mathlib.Core.Path.{_≡_}
+use mathlib.Core.Bool.{Bool, true, false}
+use mathlib.Core.List.{List, [], _∷_}
+use lib.Dec.{leb}
+use lib.IntN.{pos}
+use lib.ListN.{length}
+use Rattle.basis.specs.Pick.{pick}
+use Rattle.basis.specs.Refusals.{Answer, gives, refuses}
+use Rattle.rdh.specs.declared.rdh_cru.RdhCru.{RdhCru}
+use Rattle.text.specs.Written.{overwritten}
+use Rattle.validators.specs.declared.HeaderId.{HeaderId}
+use Rattle.validators.specs.declared.HeaderId.the-variants.{Configured, NotSettled, Settled}
+use Rattle.validators.specs.declared.RdhCruSanityValidator.{RdhCruSanityValidator}
+use Rattle.validators.specs.declared.SanityCheck.{SanityCheck}
+use Rattle.validators.specs.declared.Verdict.{Verdict}
+use Rattle.validators.specs.declared.Verdict.the-variants.{Sound, NotSound, TooShort}
+use Rattle.validators.specs.Tests.{sound, verdictText}
+
+-- The header ID that a header with this ID is held to: the configured or settled one, or its own where none is settled yet.
+abbrev pub expectedId : HeaderId → ℕ → ℕ
+expectedId (Configured n) id = n
+expectedId NotSettled id = id
+expectedId (Settled n) id = n
+
+-- "The first header checked settles the header ID for all later ones, unless a version was configured; it does so even if it fails
+-- elsewhere."
+abbrev pub settledId : HeaderId → ℕ → HeaderId
+settledId (Configured n) id = Configured n
+settledId NotSettled id = Settled id
+settledId (Settled n) id = Settled n
+
+-- Whether a validator finds a header sound, and its text.
+unfoldable pub soundTo : RdhCruSanityValidator → RdhCru → Bool
+soundTo v h = sound (expectedId (v .«header_id») (h .rdh0 .«header_id»)) (v .its) h
+
+unfoldable pub textOf : RdhCruSanityValidator → RdhCru → List ℕ
+textOf v h = verdictText (expectedId (v .«header_id») (h .rdh0 .«header_id»)) (v .its) h
+
+-- The validator once a header has been checked.
+unfoldable pub settledBy : RdhCruSanityValidator → RdhCru → RdhCruSanityValidator
+settledBy v h = record { «header_id» = settledId (v .«header_id») (h .rdh0 .«header_id»); its = v .its }
+
+-- A verdict: sound or not, and the text's length.
+pub record Judged : Type 0 where
+  pub is-sound : Bool
+  pub text-length : ℕ
+
+-- What each case of the code's enum says: a verdict, or refusal 7 with the length needed.
+abbrev pub answerOf : Verdict → Answer Judged
+answerOf Sound = gives (record { is-sound = true; text-length = 0 })
+answerOf (NotSound n) = gives (record { is-sound = false; text-length = n })
+answerOf (TooShort n) = refuses 7 (pos n ∷ [])
+
+-- What a check answers for a text buffer of a length.
+unfoldable pub answered : RdhCruSanityValidator → RdhCru → ℕ → Answer Judged
+answered v h room =
+    pick (leb (length (textOf v h)) room)
+    (gives (record { is-sound = soundTo v h; text-length = length (textOf v h) }))
+    (refuses 7 (pos (length (textOf v h)) ∷ []))
+
+-- The validator afterwards: refusal 7 leaves "no header ID settled".
+unfoldable pub validatorAfter : RdhCruSanityValidator → RdhCru → ℕ → RdhCruSanityValidator
+validatorAfter v h room = pick (leb (length (textOf v h)) room) (settledBy v h) v
+
+-- The contract of a check of the header `h` on the validator `v`, which is lent the buffer `l`: `r` is its reply, and `m` is what it leaves
+-- in the buffer.
+pub record Checks (v : RdhCruSanityValidator) (h : RdhCru) (l : List ℕ) (r : SanityCheck) (m : List ℕ) : Type 0 where
+  pub verdict : answerOf (r .verdict) ≡ answered v h (length l)
+  pub validator : r .validator ≡ validatorAfter v h (length l)
+  pub leaves : m ≡ overwritten (textOf v h) l
+
+-- A length that tells whether the text fits a room: the text's own where it does not fit.
+pub record Needed (t : List ℕ) (room need : ℕ) : Type 0 where
+  pub fits : need ≤ room → length t ≤ room
+  pub exact : room < need → need ≡ length t

@@ -1,0 +1,166 @@
+// The verdict: whether a header is sound, in the Rust's words. A module for each word of the header, as the Rust has a validator for
+// each.
+ghost use mathlib.Core.Path.{_≡_};
+ghost use mathlib.Core.Bool.{Bool, false, true};
+ghost use Rattle.validators.specs.Tests.{allTests, anyFails, failureText};
+ghost use Rattle.validators.specs.Verdict.{Checks, Needed, expectedId, settledId};
+ghost use Rattle.text.specs.Put.{Put};
+use rdh::rdh_cru::RdhCru;
+
+mod cru;
+mod fee_id;
+mod piece;
+mod rdh0;
+mod rdh1;
+mod rdh2;
+mod rdh3;
+
+// The header ID that headers are held to: the configured version; or none yet; or that of the first header checked.
+pub enum HeaderId {
+    Configured(u8),
+    NotSettled,
+    Settled(u8),
+}
+
+// A validator: its settings, and what it has settled.
+pub struct RdhCruSanityValidator {
+    pub header_id: HeaderId,
+    pub its: bool,
+}
+
+// Sound; not sound, with the length of the text that was written; or refused with the length that the text needs.
+pub enum Verdict {
+    Sound,
+    NotSound(usize),
+    TooShort(usize),
+}
+
+// A check's reply: the verdict, and the validator for the next header.
+pub struct SanityCheck {
+    pub verdict: Verdict,
+    pub validator: RdhCruSanityValidator,
+}
+
+// The length of the longest text: a buffer of this length is never too short.
+const LONGEST_TEXT: usize = 406;
+
+impl RdhCruSanityValidator {
+    // No version is configured, and the system id is not tested.
+    pub fn new() -> Self
+        ensures { λ r. ⌜ r ≡ record { «header_id» = HeaderId.NotSettled; its = false } ⌝ }
+    {
+        Self {
+            header_id: HeaderId::NotSettled,
+            its: false,
+        }
+    }
+
+    // Every header is held to this version.
+    pub fn with_version(rdh_version: u8) -> Self
+        ensures { λ r. ⌜ r ≡ record { «header_id» = HeaderId.Configured «rdh_version»; its = false } ⌝ }
+    {
+        Self {
+            header_id: HeaderId::Configured(rdh_version),
+            its: false,
+        }
+    }
+
+    // The same validator, specialized for the inner tracking system: the system id is tested too.
+    pub fn specialize(self) -> Self
+        ensures { λ r. ⌜ r ≡ record { «header_id» = self .«header_id»; its = true } ⌝ }
+    {
+        let header_id = self.header_id;
+        Self {
+            header_id,
+            its: true,
+        }
+    }
+
+    // Checks a header, and writes the text that names what is wrong with it at the start of `text`. The first header checked settles the
+    // header ID, sound or not; a refused check settles nothing.
+    pub fn sanity_check(self, rdh: RdhCru, text: &mut [u8]) -> SanityCheck
+        ensures { λ r. ⌜ Checks self rdh (now (text .entry)) r (now (text .exit)) ⌝ }
+    {
+        let header_id = self.header_id;
+        let its = self.its;
+        let id = rdh.rdh0.header_id;
+        let expected = expected_id(header_id, id);
+        let settled = RdhCruSanityValidator {
+            header_id: settled_id(header_id, id),
+            its,
+        };
+        if !fails(expected, its, rdh) {
+            return SanityCheck {
+                verdict: Verdict::Sound,
+                validator: settled,
+            };
+        }
+        let need = needed(expected, its, rdh, text.len());
+        if text.len() < need {
+            return SanityCheck {
+                verdict: Verdict::TooShort(need),
+                validator: self,
+            };
+        }
+        SanityCheck {
+            verdict: Verdict::NotSound(put_text(text, 0, expected, its, rdh)),
+            validator: settled,
+        }
+    }
+}
+
+// The header ID that a header with this ID is held to.
+fn expected_id(header_id: HeaderId, id: u8) -> u8
+    ensures { λ r. ⌜ r ≡ expectedId «header_id» id ⌝ }
+{
+    match header_id {
+        HeaderId::Configured(n) => n,
+        HeaderId::NotSettled => id,
+        HeaderId::Settled(n) => n,
+    }
+}
+
+// What is settled once a header with this ID has been checked.
+fn settled_id(header_id: HeaderId, id: u8) -> HeaderId
+    ensures { λ r. ⌜ r ≡ settledId «header_id» id ⌝ }
+{
+    match header_id {
+        HeaderId::Configured(n) => HeaderId::Configured(n),
+        HeaderId::NotSettled => HeaderId::Settled(id),
+        HeaderId::Settled(n) => HeaderId::Settled(n),
+    }
+}
+
+// Whether any test fails. No text is made.
+fn fails(expected: u8, its: bool, rdh: RdhCru) -> bool
+    ensures { λ r. ⌜ r ≡ anyFails (allTests expected its rdh) ⌝ }
+{
+    let rdh0 = rdh0::fails(expected, its, rdh.rdh0);
+    let rdh1 = rdh1::fails(rdh.rdh1);
+    let rdh2 = rdh2::fails(rdh.rdh2);
+    let rdh3 = rdh3::fails(rdh.rdh3);
+    rdh0 | rdh1 | rdh2 | rdh3 | cru::fails(rdh)
+}
+
+// The length that the text of a header that is not sound needs, or 0 where any text fits the room.
+fn needed(expected: u8, its: bool, rdh: RdhCru, room: usize) -> usize
+    ensures { λ r. ⌜ Needed (failureText expected its rdh) room r ⌝ }
+{
+    if LONGEST_TEXT <= room {
+        return 0;
+    }
+    let mut none = [0u8; 0];
+    put_text(&mut none, 0, expected, its, rdh)
+}
+
+// The text of a header that is not sound.
+fn put_text(out: &mut [u8], at: usize, expected: u8, its: bool, rdh: RdhCru) -> usize
+    ensures { λ r. ⌜ Put (now (out .entry)) at (failureText expected its rdh) (now (out .exit)) r ⌝ }
+{
+    let at = text::put_bytes(out, at, b"[E10] RDH sanity check failed: ");
+    let at = rdh0::put(out, at, expected, its, rdh.rdh0);
+    let at = rdh1::put(out, at, rdh.rdh1);
+    let at = rdh2::put(out, at, rdh.rdh2);
+    let at = rdh3::put(out, at, rdh.rdh3);
+    cru::put(out, at, rdh)
+}
