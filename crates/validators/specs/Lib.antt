@@ -1,3 +1,4 @@
 pub mod Tests
 pub mod TestsLaws
+pub mod TextLengths
 pub mod Verdict
