@@ -1,0 +1,2 @@
+pub mod FeeIds
+pub mod FeeIdLaws
