@@ -1,13 +1,13 @@
--- The first `_` behind the first byte cuts a stave name into its parts: the grammar has no other cut.
-use mathlib.Core.Path.{_≡_, ap, ap₂, sym, subst, _∙_}
+-- The first `_` behind the first byte cuts a stave name into its layer and its stave: the grammar has no other cut.
+use mathlib.Core.Path.{_≡_, ap, ap₂, sym, _∙_}
 use mathlib.Core.List.{List, [], _∷_, _++_}
-use Prim.Native.Nat.{ℕ, zero, suc, _+_, _-_, _≤_, _<_}
+use Prim.Native.Nat.{ℕ, zero, suc, _+_, _-_, _<_}
 use native.Mathlib.Numerals.{add-one}
 use native.Mathlib.Omega.{arith}
-use lib.ListN.{length, getD, take, drop, length-drop, length-take, length-append}
+use lib.ListN.{length, getD, take, drop, length-drop, length-take}
 use lib.Seq.{split-at, take-all, getD-take, getD-drop, getD-append-seam}
 use Rattle.its.specs.StaveNames.{underscore, Number, Named}
-use Rattle.its.specs.StaveNameLaws.{Without, no-underscore, one-cut}
+use Rattle.its.specs.StaveNameLaws.{Without, numbers-of-cut, length-named}
 use Rattle.its.specs.Parsing.{FirstUnderscore}
 
 -- What `&s[a..e]` lends.
@@ -17,18 +17,19 @@ part a e s = take (e - a) (drop a s)
 pub to-end : (a : ℕ) (s : List ℕ) → part a (length s) s ≡ drop a s
 to-end a s = take-all (length s - a) (drop a s) (omega (arith, length-drop a s))
 
+to-end-behind : (first : ℕ) (rest : List ℕ) (j : ℕ) → part (suc j + 1) (suc (length rest)) (first ∷ rest) ≡ drop (suc j) rest
+to-end-behind first rest j = to-end (suc j + 1) (first ∷ rest) ∙ ap (λ (n : ℕ). drop n (first ∷ rest)) (add-one (suc j))
+
 cut : (name : List ℕ) (k : ℕ) → FirstUnderscore name k → k < length name
     → name ≡ getD name 0 0 ∷ (part 1 k name ++ (underscore ∷ part (k + 1) (length name) name))
 cut [] k u below = absurd (omega arith)
 cut (first ∷ rest) zero u below = absurd (omega (arith, u .behind-first))
 cut (first ∷ rest) (suc j) u below =
-    let stave : part (suc j + 1) (suc (length rest)) (first ∷ rest) ≡ drop (suc j) rest =
-        to-end (suc j + 1) (first ∷ rest) ∙ ap (λ (n : ℕ). drop n (first ∷ rest)) (add-one (suc j)) in
     let place : j ≡ suc j - 1 = omega arith in
     ap (λ (t : List ℕ). first ∷ t)
     (split-at rest j 0 (omega arith)
     ∙ ap (λ (x : ℕ). take j rest ++ (x ∷ drop (suc j) rest)) (u .stands below)
-    ∙ ap₂ (λ (n : ℕ) (t : List ℕ). take n rest ++ (underscore ∷ t)) place (sym stave))
+    ∙ ap₂ (λ (n : ℕ) (t : List ℕ). take n rest ++ (underscore ∷ t)) place (sym (to-end-behind first rest j)))
 
 clean : (name : List ℕ) (k : ℕ) → FirstUnderscore name k → Without underscore (part 1 k name)
 clean name k u i below e =
@@ -36,38 +37,36 @@ clean name k u i below e =
     u .none-before (1 + i) (omega arith) (omega arith)
     (sym (getD-take (k - 1) (drop 1 name) i 0 within ∙ getD-drop 1 name i 0) ∙ e)
 
-pub named-parts : (name : List ℕ) (k layer stave : ℕ) → FirstUnderscore name k → k < length name → Named name layer stave
-    → Number (part 1 k name) layer × Number (part (k + 1) (length name) name) stave
-named-parts name k layer stave u below r =
-    let same =
-        one-cut underscore (r .layer-text) (part 1 k name) (r .stave-text) (part (k + 1) (length name) name)
-        (no-underscore _ layer (r .a-layer)) (clean name k u)
-        (ap (λ (t : List ℕ). drop 1 t) (sym (r .parts) ∙ cut name k u below)) in
-    (subst (λ (t : List ℕ). Number t layer) (same .0) (r .a-layer), subst (λ (t : List ℕ). Number t stave) (same .1) (r .a-stave))
+inside : (name : List ℕ) (k : ℕ) → FirstUnderscore name k → (k ≡ length name → ⊥) → k < length name
+inside name k u found = omega arith
 
-pub parts-named : (name : List ℕ) (k layer stave : ℕ) → FirstUnderscore name k → k < length name
+pub named-parts : (name : List ℕ) (k layer stave : ℕ) → FirstUnderscore name k → (k ≡ length name → ⊥) → Named name layer stave
+    → Number (part 1 k name) layer × Number (part (k + 1) (length name) name) stave
+named-parts name k layer stave u found r = numbers-of-cut name _ layer stave _ _ r (cut name k u (inside name k u found)) (clean name k u)
+
+pub parts-named : (name : List ℕ) (k layer stave : ℕ) → FirstUnderscore name k → (k ≡ length name → ⊥)
     → getD name 0 0 < 0x80 → (getD name 0 0 ≡ underscore → ⊥)
     → Number (part 1 k name) layer → Number (part (k + 1) (length name) name) stave → Named name layer stave
-parts-named name k layer stave u below low other l s = record {
-    first = getD name 0 0;
-    layer-text = part 1 k name;
-    stave-text = part (k + 1) (length name) name;
-    parts = cut name k u below;
-    below-0x80 = low;
-    no-underscore = other;
-    a-layer = l;
-    a-stave = s }
+parts-named name k layer stave u found low other l s = record {
+  first = getD name 0 0;
+  layer-text = part 1 k name;
+  stave-text = part (k + 1) (length name) name;
+  parts = cut name k u (inside name k u found);
+  below-0x80 = low;
+  but-underscore = other;
+  a-layer = l;
+  a-stave = s;
+}
 
 pub first-byte : (name : List ℕ) (layer stave : ℕ) → Named name layer stave
     → (getD name 0 0 < 0x80) × (getD name 0 0 ≡ underscore → ⊥)
 first-byte name layer stave r =
     let same : getD name 0 0 ≡ r .first = ap (λ (t : List ℕ). getD t 0 0) (r .parts) in
-    (omega (arith, r .below-0x80), λ e. r .no-underscore (sym same ∙ e))
+    (omega (arith, r .below-0x80), λ e. r .but-underscore (sym same ∙ e))
 
 pub has-underscore : (name : List ℕ) (k layer stave : ℕ) → FirstUnderscore name k → Named name layer stave → k ≡ length name → ⊥
 has-underscore name k layer stave u r e =
     let at : ℕ = length (r .layer-text) in
-    let whole : length name ≡ suc (at + suc (length (r .stave-text))) =
-        ap length (r .parts) ∙ ap suc (length-append (r .layer-text) (underscore ∷ r .stave-text)) in
+    let whole = length-named name layer stave r in
     u .none-before (suc at) (omega arith) (omega arith)
     (ap (λ (t : List ℕ). getD t (suc at) 0) (r .parts) ∙ getD-append-seam (r .layer-text) underscore (r .stave-text) 0)

@@ -21,6 +21,12 @@ digit0 = 48
 abbrev pub digit9 : ℕ
 digit9 = 57
 
+abbrev pub Digit : ℕ → Type 0
+Digit byte = (digit0 ≤ byte) × (byte ≤ digit9)
+
+abbrev pub AllDigits : List ℕ → Type 0
+AllDigits text = (k : ℕ) → k < length text → Digit (getD text k 0)
+
 -- The number that decimal digits spell: a digit counts ten to the power of how many stand behind it.
 unfoldable pub valueOf : List ℕ → ℕ
 valueOf [] = 0
@@ -29,7 +35,7 @@ valueOf (digit ∷ behind) = (digit - digit0) * 10 ^ length behind + valueOf beh
 -- "one or more digits, at most 255", which spell n.
 pub record Digits (text : List ℕ) (n : ℕ) : Type 0 where
   pub one-or-more : 0 < length text
-  pub each : (k : ℕ) → k < length text → (digit0 ≤ getD text k 0) × (getD text k 0 ≤ digit9)
+  pub each : AllDigits text
   pub spell : valueOf text ≡ n
   pub at-most : n ≤ 255
 
@@ -45,17 +51,17 @@ pub record Named (name : List ℕ) (layer stave : ℕ) : Type 0 where
   pub stave-text : List ℕ
   pub parts : name ≡ first ∷ (layer-text ++ (underscore ∷ stave-text))
   pub below-0x80 : first < 0x80
-  pub no-underscore : first ≡ underscore → ⊥
+  pub but-underscore : first ≡ underscore → ⊥
   pub a-layer : Number layer-text layer
   pub a-stave : Number stave-text stave
 
--- The answer to a list of bytes: a stave name gives "the FEE id .. made from layer mod 8 and stave mod 64"; what is no stave
--- name is refused with number 8, and nothing is returned.
+-- The answer to a list of bytes: a stave name gives "the FEE id .. made from layer mod 8 and stave mod 64"; what is "not a
+-- stave name" is refused with number 8, and nothing is returned.
 pub data Answered (name : List ℕ) (answer : Answer ℕ) : Type 0 where
   named : (layer stave : ℕ) → Named name layer stave → answer ≡ gives (feeIdOf layer stave) → Answered name answer
   not-named : ((layer stave : ℕ) → Named name layer stave → ⊥) → answer ≡ refuses 8 [] → Answered name answer
 
--- What the code's enum answers.
+-- The answer that each case of the code's enum is.
 abbrev pub answerOf : StaveFeeId → Answer ℕ
 answerOf (FeeId id) = gives id
 answerOf NotAStaveName = refuses 8 []

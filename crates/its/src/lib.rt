@@ -4,7 +4,7 @@ ghost use Prim.Native.Nat.{_+_, _-_, _*_, _≤_, _<_, min};
 ghost use lib.ListN.{length};
 ghost use Rattle.rdh.specs.Subfields.{layerOf, staveOf, uplinkOf};
 ghost use Rattle.its.specs.FeeIds.{feeIdOf, sameStave};
-ghost use Rattle.its.specs.StaveNames.{digit0, digit9, Answered, answerOf};
+ghost use Rattle.its.specs.StaveNames.{digit0, Digit, Answered, answerOf};
 ghost use Rattle.its.specs.Parsing.{nameParsed, FirstUnderscore, numberParsed, digitsParsed};
 use rdh::rdh0::FeeId;
 
@@ -85,7 +85,7 @@ pub fn layer_stave_string_to_feeid(name: &[u8]) -> StaveFeeId
     }
 }
 
-// The two numbers of a stave name. They are not folded yet.
+// The two numbers of a stave name, as they are written: a FEE id keeps only their lower bits.
 fn parse_stave_name(name: &[u8]) -> ParsedName
     ensures { λ r. ⌜ nameParsed (now (name .entry)) r ⌝ }
 {
@@ -126,7 +126,7 @@ fn underscore_place(name: &[u8]) -> usize
     i
 }
 
-// A number as Rust's `parse::<u8>` takes it: an optional `+`, then digits. Any number of leading zeros is fine.
+// A number as Rust's `parse::<u8>` takes it: an optional `+`, then digits.
 fn parse_u8(text: &[u8]) -> ParsedU8
     ensures { λ r. ⌜ numberParsed (now (text .entry)) r ⌝ }
 {
@@ -139,6 +139,7 @@ fn parse_u8(text: &[u8]) -> ParsedU8
     parse_digits(text)
 }
 
+// The number that one or more digits spell, if it is at most 255. There may be any number of leading zeros.
 fn parse_digits(text: &[u8]) -> ParsedU8
     ensures { λ r. ⌜ digitsParsed (now (text .entry)) r ⌝ }
 {
@@ -161,11 +162,15 @@ fn parse_digits(text: &[u8]) -> ParsedU8
     ParsedU8::Number(value as u8)
 }
 
-// The value with one more digit. It stops at 256, so that no length of digits overflows it.
+// The value with one more digit behind it. It stops at 256, so that no number of digits overflows it.
 fn with_digit(value: u16, digit: u8) -> u16
-    requires { ⌜ (value ≤ 256) × (digit0 ≤ digit) × (digit ≤ digit9) ⌝ }
+    requires { ⌜ (value ≤ 256) × Digit digit ⌝ }
     ensures { λ r. ⌜ r ≡ min 256 (value * 10 + (digit - digit0)) ⌝ }
 {
     let longer = value * 10 + (digit - b'0') as u16;
-    if longer < TOO_LARGE { longer } else { TOO_LARGE }
+    if longer < TOO_LARGE {
+        longer
+    } else {
+        TOO_LARGE
+    }
 }

@@ -1,23 +1,19 @@
 -- The loop reads the digits from the front: the value is what the digits passed spell, or 256 if that is more.
-use Prim.Native.Nat.{ℕ, _+_, _*_, _≤_, _<_, _-_, min}
-use mathlib.Core.Path.{_≡_, ap, _∙_}
+use mathlib.Core.Path.{_≡_, ap, sym, _∙_}
 use mathlib.Core.Logic.{⊎-elim}
-use native.Mathlib.Numerals.{add-one}
+use Prim.Native.Nat.{ℕ, _≤_, _<_, _-_, min}
 use native.Mathlib.Omega.{arith}
-use lib.ListN.{length, getD, take}
-use lib.Seq.{take-suc, take-all}
 use borrow.Author.Count.{below-more}
 use borrow.Author.Tests.{ltb-true, ltb-false}
-use Rattle.its.specs.StaveNames.{digit0, digit9, valueOf, Digits}
-use Rattle.its.specs.StaveNameLaws.{one-more-digit}
+use lib.ListN.{length, getD, take}
+use lib.Seq.{take-all}
+use Rattle.its.specs.StaveNames.{Digit, valueOf}
+use Rattle.its.proofs.Numbers.{stopped, digit-passed}
 use Rattle.its.proofs.parse_digits.Statement.{statement}
 use Rattle.its.proofs.parse_digits.Tie as tie
-use Rattle.its.proofs.parse_digits.Reads as reads
-use Rattle.its.proofs.parse_digits.Lts as lts
-use Rattle.its.proofs.with_digit.Reads as with-digit-reads
 
 abbrev Inv-loop : tie.InvT-loop
-Inv-loop text value₀ i₀ value i = (i ≤ length text) × (value ≡ min 256 (valueOf (take i text))) × ((k : ℕ) → k < i → (digit0 ≤ getD text k 0) × (getD text k 0 ≤ digit9))
+Inv-loop text value₀ i₀ value i = (i ≤ length text) × (value ≡ min 256 (valueOf (take i text))) × ((k : ℕ) → k < i → Digit (getD text k 0))
 
 abbrev μ-loop : tie.MeasureT-loop
 μ-loop text value₀ i₀ value i = length text - i
@@ -39,7 +35,7 @@ returns-2 c =
     λ n d. ⊎-elim (λ w. omega (arith, d .each i below)) (λ w. omega (arith, ltb-true, d .each i below)) (c .if2 .came)
 
 with-digit-requires : tie.Need-with-digit-requires Inv-loop μ-loop
-with-digit-requires c κs = omega (arith, ltb-false)
+with-digit-requires c κs = (omega arith, (c .before .if2 .left, ltb-false _ _ (c .if3 .left)))
 
 add-i : tie.Need-add-i Inv-loop μ-loop
 add-i c = omega arith
@@ -52,11 +48,9 @@ loop-again c =
     let text = c .before .before .before .before .before .before .before .before .args .text .now in
     let i = c .before .before .before .before .before .loop .i in
     let inv = c .before .before .before .before .before .loop .inv in
-    let value : valueOf (take (i + 1) text) ≡ valueOf (take i text) * 10 + (getD text i 0 - digit0) =
-        ap (λ (n : ℕ). valueOf (take n text)) (add-one i)
-        ∙ ap valueOf (take-suc text i 0 (omega arith))
-        ∙ one-more-digit (take i text) (getD text i 0) in
-    (omega arith, omega (arith, c .with-digit .ensures), below-more _ _ (inv .2) (omega (arith, ltb-false)))
+    let spelt = digit-passed text i (c .before .before .before .before .loop-test .taken) in
+    let digit : Digit (getD text i 0) = (c .before .before .if2 .left, ltb-false _ _ (c .before .if3 .left)) in
+    (omega arith, c .with-digit .ensures ∙ stopped _ _ _ (inv .1) ∙ ap (min 256) (sym spelt), below-more _ _ (inv .2) digit)
 
 returns-3 : tie.Need-returns-3 Inv-loop μ-loop
 returns-3 c =
@@ -77,7 +71,8 @@ returns-4 c =
       one-or-more = omega arith;
       each = λ k below. c .before .before .loop .inv .2 k (omega arith);
       spell = omega arith;
-      at-most = omega arith }
+      at-most = omega arith;
+    }
 
 pub parse-digits-spec : {M : Type 1} → statement M
 parse-digits-spec =

@@ -7,8 +7,6 @@ use lib.ListN.{length, getD}
 use Rattle.its.specs.StaveNames.{underscore}
 use Rattle.its.proofs.underscore_place.Statement.{statement}
 use Rattle.its.proofs.underscore_place.Tie as tie
-use Rattle.its.proofs.underscore_place.Reads as reads
-use Rattle.its.proofs.underscore_place.Lts as lts
 
 abbrev Inv-loop : tie.InvT-loop
 Inv-loop name i₀ i = (1 ≤ i) × (i ≤ length name) × ((k : ℕ) → k < i → 1 ≤ k → getD name k 0 ≡ underscore → ⊥)
