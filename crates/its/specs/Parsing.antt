@@ -2,6 +2,7 @@
 -- contracts do not cite this file.
 use mathlib.Core.Path.{_≡_}
 use mathlib.Core.List.{List}
+use mathlib.Core.Bool.{Bool, true, false}
 use Prim.Native.Nat.{ℕ, _≤_, _<_}
 use lib.ListN.{length, getD}
 use Rattle.its.specs.StaveNames.{Digits, Number, Named, underscore}
@@ -13,6 +14,10 @@ use Rattle.its.specs.declared.ParsedU8.the-variants as u8
 abbrev pub nameParsed : List ℕ → ParsedName → Type 0
 nameParsed name (Stave layer stave) = Named name layer stave
 nameParsed name NotAStaveName = (layer stave : ℕ) → Named name layer stave → ⊥
+
+abbrev pub startParsed : List ℕ → Bool → Type 0
+startParsed name true = (0 < length name) × (getD name 0 0 < 0x80) × (getD name 0 0 ≡ underscore → ⊥)
+startParsed name false = (layer stave : ℕ) → Named name layer stave → ⊥
 
 abbrev pub numberParsed : List ℕ → ParsedU8 → Type 0
 numberParsed text (u8.Number n) = Number text n

@@ -5,7 +5,7 @@ ghost use lib.ListN.{length};
 ghost use Rattle.rdh.specs.Subfields.{layerOf, staveOf, uplinkOf};
 ghost use Rattle.its.specs.FeeIds.{feeIdOf, sameStave};
 ghost use Rattle.its.specs.StaveNames.{digit0, Digit, Answered, answerOf};
-ghost use Rattle.its.specs.Parsing.{nameParsed, FirstUnderscore, numberParsed, digitsParsed};
+ghost use Rattle.its.specs.Parsing.{nameParsed, startParsed, FirstUnderscore, numberParsed, digitsParsed};
 use rdh::rdh0::FeeId;
 
 // A FEE id keeps three bits of the layer, from bit 12 on, and six bits of the stave, from bit 0 on.
@@ -89,11 +89,7 @@ pub fn layer_stave_string_to_feeid(name: &[u8]) -> StaveFeeId
 fn parse_stave_name(name: &[u8]) -> ParsedName
     ensures { λ r. ⌜ nameParsed (now (name .entry)) r ⌝ }
 {
-    if name.len() == 0 {
-        return ParsedName::NotAStaveName;
-    }
-    let first = name[0];
-    if first >= 0x80 || first == b'_' {
+    if !starts_well(name) {
         return ParsedName::NotAStaveName;
     }
     let mid = underscore_place(name);
@@ -109,6 +105,23 @@ fn parse_stave_name(name: &[u8]) -> ParsedName
         return ParsedName::NotAStaveName;
     };
     ParsedName::Stave(layer, stave)
+}
+
+// Whether a stave name can begin so: with a byte below 0x80, but `_`.
+fn starts_well(name: &[u8]) -> bool
+    ensures { λ r. ⌜ startParsed (now (name .entry)) r ⌝ }
+{
+    if name.len() == 0 {
+        return false;
+    }
+    let first = name[0];
+    if first >= 0x80 {
+        return false;
+    }
+    if first == b'_' {
+        return false;
+    }
+    true
 }
 
 // The place of the first `_` behind the first byte, or the name's length if there is none.

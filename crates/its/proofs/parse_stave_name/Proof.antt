@@ -1,30 +1,27 @@
 -- The first `_` behind the first byte is the only place where the name can be cut, and each part is parsed by itself.
 use mathlib.Core.Path.{subst}
-use mathlib.Core.Logic.{⊎-elim}
+use mathlib.Core.Bool.{true}
 use native.Mathlib.Omega.{arith}
-use borrow.Author.Tests.{eqb-true, eqb-false}
-use Rattle.its.specs.StaveNameLaws.{four-bytes}
-use Rattle.its.specs.Parsing.{numberParsed}
-use Rattle.its.proofs.Parts.{first-byte, has-underscore, named-parts, parts-named}
+use borrow.Author.Tests.{not-true, not-false}
+use Rattle.its.specs.Parsing.{startParsed, numberParsed}
+use Rattle.its.proofs.Parts.{has-underscore, named-parts, parts-named}
 use Rattle.its.proofs.parse_stave_name.Statement.{statement}
 use Rattle.its.proofs.parse_stave_name.Tie as tie
 
+starts-well-requires : tie.Need-starts-well-requires
+starts-well-requires c κs = tt
+
 returns : tie.Need-returns
-returns c = λ layer stave r. omega (arith, four-bytes _ layer stave r)
+returns c = subst (startParsed _) (not-true (c .before .starts-well .result) (c .if1 .taken)) (c .before .starts-well .ensures)
 
-shared-slice-read-first : tie.Need-shared-slice-read-first
-shared-slice-read-first c = omega arith
-
-returns-2 : tie.Need-returns-2
-returns-2 c = λ layer stave r.
-    let first = first-byte _ layer stave r in
-    ⊎-elim (λ w. omega arith) (λ w. first .1 (eqb-true _ _ (w .1 .taken))) (c .if2 .came)
+well-started : (c : tie.Else1) → startParsed (c .before .before .before .args .name .now) true
+well-started c = subst (startParsed _) (not-false (c .before .starts-well .result) (c .if1 .left)) (c .before .starts-well .ensures)
 
 underscore-place-requires : tie.Need-underscore-place-requires
-underscore-place-requires c κs = omega arith
+underscore-place-requires c κs = well-started c .0
 
-returns-3 : tie.Need-returns-3
-returns-3 c = λ layer stave r. has-underscore _ _ layer stave (c .before .underscore-place .ensures) r (c .if4 .taken)
+returns-2 : tie.Need-returns-2
+returns-2 c = λ layer stave r. has-underscore _ _ layer stave (c .before .underscore-place .ensures) r (c .if2 .taken)
 
 sub-parse-u8 : tie.Need-sub-parse-u8
 sub-parse-u8 c = omega arith
@@ -44,11 +41,11 @@ enum-known-layer c = c .match .keys1
 enum-told : tie.Need-enum-told
 enum-told c = c .match .keys2
 
-returns-4 : tie.Need-returns-4
-returns-4 c = λ layer stave r.
+returns-3 : tie.Need-returns-3
+returns-3 c = λ layer stave r.
     let at-cut = c .before .before .before .before in
     let none = subst (numberParsed _) (c .enum-told .given .1) (c .before .before .parse-u8 .ensures) in
-    none layer (named-parts _ _ layer stave (at-cut .before .underscore-place .ensures) (at-cut .if4 .left) r .0)
+    none layer (named-parts _ _ layer stave (at-cut .before .underscore-place .ensures) (at-cut .if2 .left) r .0)
 
 add-behind : tie.Need-add-behind
 add-behind c = omega arith
@@ -71,17 +68,17 @@ enum-known-stave c = c .match2 .keys1
 enum-told-2 : tie.Need-enum-told-2
 enum-told-2 c = c .match2 .keys2
 
-returns-5 : tie.Need-returns-5
-returns-5 c = λ layer stave r.
+returns-4 : tie.Need-returns-4
+returns-4 c = λ layer stave r.
     let at-cut = c .before .before .before .before .before .before .before .before .before in
     let none = subst (numberParsed _) (c .enum-told2 .given .1) (c .before .before .parse-u82 .ensures) in
-    none stave (named-parts _ _ layer stave (at-cut .before .underscore-place .ensures) (at-cut .if4 .left) r .1)
+    none stave (named-parts _ _ layer stave (at-cut .before .underscore-place .ensures) (at-cut .if2 .left) r .1)
 
-returns-6 : tie.Need-returns-6
-returns-6 c =
+returns-5 : tie.Need-returns-5
+returns-5 c =
     let at-cut = c .before .before .before .before .before .before .before .before .before .before in
-    parts-named _ _ _ _ (at-cut .before .underscore-place .ensures) (at-cut .if4 .left)
-    (at-cut .before .before .before .if2 .left) (eqb-false _ _ (at-cut .before .before .if3 .left))
+    let first = well-started (at-cut .before .before) in
+    parts-named _ _ _ _ (at-cut .before .underscore-place .ensures) (at-cut .if2 .left) (first .1) (first .2)
     (subst (numberParsed _) (c .before .before .before .before .before .before .layer .given .1)
     (c .before .before .before .before .before .before .before .before .parse-u8 .ensures))
     (subst (numberParsed _) (c .before .stave .given .1) (c .before .before .before .parse-u82 .ensures))
@@ -90,18 +87,17 @@ pub parse-stave-name-spec : {M : Type 1} → statement M
 parse-stave-name-spec =
     tie.close
     (tie.spec
+    starts-well-requires
     returns
-    shared-slice-read-first
-    returns-2
     underscore-place-requires
-    returns-3
+    returns-2
     sub-parse-u8
     part-parse-u8-start
     part-parse-u8-end
     parse-u8-requires
     enum-known-layer
     enum-told
-    returns-4
+    returns-3
     add-behind
     sub-parse-u8-2
     part-parse-u8-start-2
@@ -109,5 +105,5 @@ parse-stave-name-spec =
     parse-u8-requires-2
     enum-known-stave
     enum-told-2
-    returns-5
-    returns-6)
+    returns-4
+    returns-5)
