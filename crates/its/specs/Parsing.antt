@@ -23,6 +23,11 @@ abbrev pub numberParsed : List ℕ → ParsedU8 → Type 0
 numberParsed text (u8.Number n) = Number text n
 numberParsed text u8.NotANumber = (n : ℕ) → Number text n → ⊥
 
+abbrev pub bothNumbers : ParsedU8 → ParsedU8 → ParsedName
+bothNumbers (u8.Number layer) (u8.Number stave) = Stave layer stave
+bothNumbers (u8.Number layer) u8.NotANumber = NotAStaveName
+bothNumbers u8.NotANumber stave = NotAStaveName
+
 abbrev pub digitsParsed : List ℕ → ParsedU8 → Type 0
 digitsParsed text (u8.Number n) = Digits text n
 digitsParsed text u8.NotANumber = (n : ℕ) → Digits text n → ⊥

@@ -5,7 +5,7 @@ ghost use lib.ListN.{length};
 ghost use Rattle.rdh.specs.Subfields.{layerOf, staveOf, uplinkOf};
 ghost use Rattle.its.specs.FeeIds.{feeIdOf, sameStave};
 ghost use Rattle.its.specs.StaveNames.{digit0, Digit, Answered, answerOf};
-ghost use Rattle.its.specs.Parsing.{nameParsed, startParsed, FirstUnderscore, numberParsed, digitsParsed};
+ghost use Rattle.its.specs.Parsing.{nameParsed, startParsed, bothNumbers, FirstUnderscore, numberParsed, digitsParsed};
 use rdh::rdh0::FeeId;
 
 // A FEE id keeps three bits of the layer, from bit 12 on, and six bits of the stave, from bit 0 on.
@@ -55,7 +55,7 @@ pub fn is_match_feeid_layer_stave(a_fee_id: u16, b_fee_id: u16) -> bool
     (a_fee_id & LAYER_STAVE_MASK) == (b_fee_id & LAYER_STAVE_MASK)
 }
 
-// What a stave name stands for.
+// The FEE id that a stave name stands for, or refusal 8.
 pub enum StaveFeeId {
     FeeId(u16),
     NotAStaveName,
@@ -97,17 +97,26 @@ fn parse_stave_name(name: &[u8]) -> ParsedName
         return ParsedName::NotAStaveName;
     }
     let start = 1;
-    let ParsedU8::Number(layer) = parse_u8(&name[start..mid]) else {
-        return ParsedName::NotAStaveName;
-    };
+    let layer = parse_u8(&name[start..mid]);
     let behind = mid + 1;
-    let ParsedU8::Number(stave) = parse_u8(&name[behind..]) else {
-        return ParsedName::NotAStaveName;
-    };
-    ParsedName::Stave(layer, stave)
+    let stave = parse_u8(&name[behind..]);
+    both_numbers(layer, stave)
 }
 
-// Whether a stave name can begin so: with a byte below 0x80, but `_`.
+// A layer and a stave, if both are numbers.
+fn both_numbers(layer: ParsedU8, stave: ParsedU8) -> ParsedName
+    ensures { λ r. ⌜ r ≡ bothNumbers layer stave ⌝ }
+{
+    let ParsedU8::Number(layer_num) = layer else {
+        return ParsedName::NotAStaveName;
+    };
+    let ParsedU8::Number(stave_num) = stave else {
+        return ParsedName::NotAStaveName;
+    };
+    ParsedName::Stave(layer_num, stave_num)
+}
+
+// Whether the first byte is one of a stave name: any below 0x80 but `_`.
 fn starts_well(name: &[u8]) -> bool
     ensures { λ r. ⌜ startParsed (now (name .entry)) r ⌝ }
 {

@@ -1,10 +1,10 @@
 -- The first `_` behind the first byte is the only place where the name can be cut, and each part is parsed by itself.
-use mathlib.Core.Path.{subst}
+use mathlib.Core.Path.{sym, subst}
 use mathlib.Core.Bool.{true}
 use native.Mathlib.Omega.{arith}
 use borrow.Author.Tests.{not-true, not-false}
-use Rattle.its.specs.Parsing.{startParsed, numberParsed}
-use Rattle.its.proofs.Parts.{has-underscore, named-parts, parts-named}
+use Rattle.its.specs.Parsing.{nameParsed, startParsed}
+use Rattle.its.proofs.Parts.{has-underscore, parts-parsed}
 use Rattle.its.proofs.parse_stave_name.Statement.{statement}
 use Rattle.its.proofs.parse_stave_name.Tie as tie
 
@@ -35,18 +35,6 @@ part-parse-u8-end c = omega arith
 parse-u8-requires : tie.Need-parse-u8-requires
 parse-u8-requires c κs = tt
 
-enum-known-layer : tie.Need-enum-known-layer
-enum-known-layer c = c .match .keys1
-
-enum-told : tie.Need-enum-told
-enum-told c = c .match .keys2
-
-returns-3 : tie.Need-returns-3
-returns-3 c = λ layer stave r.
-    let at-cut = c .before .before .before .before in
-    let none = subst (numberParsed _) (c .enum-told .given .1) (c .before .before .parse-u8 .ensures) in
-    none layer (named-parts _ _ layer stave (at-cut .before .underscore-place .ensures) (at-cut .if2 .left) r .0)
-
 add-behind : tie.Need-add-behind
 add-behind c = omega arith
 
@@ -62,26 +50,17 @@ part-parse-u8-end-2 c = omega arith
 parse-u8-requires-2 : tie.Need-parse-u8-requires-2
 parse-u8-requires-2 c κs = tt
 
-enum-known-stave : tie.Need-enum-known-stave
-enum-known-stave c = c .match2 .keys1
+both-numbers-requires : tie.Need-both-numbers-requires
+both-numbers-requires c κs = tt
 
-enum-told-2 : tie.Need-enum-told-2
-enum-told-2 c = c .match2 .keys2
-
-returns-4 : tie.Need-returns-4
-returns-4 c = λ layer stave r.
-    let at-cut = c .before .before .before .before .before .before .before .before .before in
-    let none = subst (numberParsed _) (c .enum-told2 .given .1) (c .before .before .parse-u82 .ensures) in
-    none stave (named-parts _ _ layer stave (at-cut .before .underscore-place .ensures) (at-cut .if2 .left) r .1)
-
-returns-5 : tie.Need-returns-5
-returns-5 c =
-    let at-cut = c .before .before .before .before .before .before .before .before .before .before in
-    let first = well-started (at-cut .before .before) in
-    parts-named _ _ _ _ (at-cut .before .underscore-place .ensures) (at-cut .if2 .left) (first .1) (first .2)
-    (subst (numberParsed _) (c .before .before .before .before .before .before .layer .given .1)
-    (c .before .before .before .before .before .before .before .before .parse-u8 .ensures))
-    (subst (numberParsed _) (c .before .stave .given .1) (c .before .before .before .parse-u82 .ensures))
+returns-3 : tie.Need-returns-3
+returns-3 c =
+    let layer = c .before .before .before .parse-u8 in
+    let stave = c .before .parse-u82 in
+    let at-cut = c .before .before .before .before .before in
+    subst (nameParsed _) (sym (c .both-numbers .ensures))
+    (parts-parsed _ _ (well-started (at-cut .before .before)) (at-cut .before .underscore-place .ensures) (at-cut .if2 .left)
+    (layer .result) (stave .result) (layer .ensures) (stave .ensures))
 
 pub parse-stave-name-spec : {M : Type 1} → statement M
 parse-stave-name-spec =
@@ -95,15 +74,10 @@ parse-stave-name-spec =
     part-parse-u8-start
     part-parse-u8-end
     parse-u8-requires
-    enum-known-layer
-    enum-told
-    returns-3
     add-behind
     sub-parse-u8-2
     part-parse-u8-start-2
     part-parse-u8-end-2
     parse-u8-requires-2
-    enum-known-stave
-    enum-told-2
-    returns-4
-    returns-5)
+    both-numbers-requires
+    returns-3)
