@@ -1,0 +1,5 @@
+pub mod FeeIds
+pub mod FeeIdLaws
+pub mod StaveNames
+pub mod StaveNameLaws
+pub mod Parsing
