@@ -2,3 +2,4 @@ pub mod Tests
 pub mod TestsLaws
 pub mod TextLengths
 pub mod Verdict
+pub mod VerdictLaws

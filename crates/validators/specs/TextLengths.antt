@@ -2,9 +2,7 @@
 use Prim.Native.Nat.{ℕ, suc, _+_, _≤_, _<_, _^_}
 use Prim.Native.String.{String}
 use mathlib.Core.Bool.{Bool, true, false}
-use mathlib.Core.Path.{_≡_}
 use mathlib.Core.List.{List, [], _∷_, _++_}
-use native.Mathlib.Nat.{lt-of-le-of-lt}
 use native.Mathlib.Omega.{arith}
 use lib.Bits.{bitAnd, and-le-r}
 use lib.ListN.{length, length-append}
@@ -22,27 +20,93 @@ length-pick : (b : Bool) (t : List ℕ) → length (pick b t []) ≤ length t
 length-pick true t = omega arith
 length-pick false t = omega arith
 
-length-pieces : (t : Test) (ts : List Test) → length (pieces (t ∷ ts)) ≤ length (t .piece) + length (pieces ts)
+-- a bound for the first piece and one for the others
+and-piece : (t : Test) (ts : List Test) {a b : ℕ} → length (t .piece) ≤ a → length (pieces ts) ≤ b → length (pieces (t ∷ ts)) ≤ a + b
 unfolding pieces
-length-pieces t ts =
+and-piece t ts first others =
     omega (arith, length-append (pick (t .fails) (t .piece) []) (pieces ts), length-pick (t .fails) (t .piece))
 
-no-pieces : length (pieces []) ≡ 0
+no-piece : length (pieces []) ≤ 0
 unfolding pieces
-no-pieces = omega arith
+no-piece = omega arith
 
-length-section : (heading : String) (ts : List Test) → length (section heading ts) ≤ length (ascii heading) + length (pieces ts)
-length-section heading ts =
+under : (heading : String) (ts : List Test) {b : ℕ} → length (pieces ts) ≤ b → length (section heading ts) ≤ length (ascii heading) + b
+under heading ts bound =
     omega (arith, length-pick (anyFails ts) (ascii heading ++ pieces ts), length-append (ascii heading) (pieces ts))
 
-length-hex-piece : (label : String) (k n : ℕ) → n < 16 ^ suc k → length (hexPiece label n) ≤ length (ascii label) + 4 + k
-length-hex-piece label k n small =
+hex-piece : (label : String) (k n : ℕ) → n < 16 ^ suc k → length (hexPiece label n) ≤ length (ascii label) + 4 + k
+hex-piece label k n small =
     omega (arith, length-append (ascii label ++ hex n) (ascii " "), length-append (ascii label) (hex n), length-hex k n small)
 
 length-decimal : (k n : ℕ) → n < 10 ^ suc k → length (decimal n) ≤ suc k
 unfolding decimal
 length-decimal k n small = length-numeral 10 20 k n (omega arith) small
 
-length-decimal-piece : (label : String) (k n : ℕ) → n < 10 ^ suc k → length (decimalPiece label n) ≤ length (ascii label) + 2 + k
-length-decimal-piece label k n small =
+decimal-piece : (label : String) (k n : ℕ) → n < 10 ^ suc k → length (decimalPiece label n) ≤ length (ascii label) + 2 + k
+decimal-piece label k n small =
     omega (arith, length-append (ascii label ++ decimal n) (ascii " "), length-append (ascii label) (decimal n), length-decimal k n small)
+
+module _ (h : RdhCru) (fits : Fits h) where
+  fee-id-pieces : length (pieces (feeIdTests (h .rdh0 .«fee_id» .0))) ≤ 51
+  unfolding feeIdTests
+  fee-id-pieces =
+      let fee = h .rdh0 .«fee_id» .0 in
+      and-piece _ _ (hex-piece "reserved bits = " 3 (bitAnd fee 0x8CC0) (omega (arith, and-le-r fee 0x8CC0)))
+      (and-piece _ _ (decimal-piece "stave number = " 1 (staveOf fee) (omega arith))
+      (and-piece _ _ (decimal-piece "layer = " 0 (layerOf fee) (omega arith)) no-piece))
+
+  header-id-piece : (expected : ℕ) → expected < 256
+      → length (ascii "Header ID = " ++ decimal (h .rdh0 .«header_id») ++ ascii " (expected " ++ decimal expected ++ ascii ")") ≤ 30
+  unfolding span value
+  header-id-piece expected small =
+      simp length-append
+      (omega (arith, length-decimal 2 (h .rdh0 .«header_id») (omega (arith, fits header-id)), length-decimal 2 expected (omega arith)))
+
+  fee-id-piece : length (ascii "FEE ID = [" ++ pieces (feeIdTests (h .rdh0 .«fee_id» .0)) ++ ascii "] ") ≤ 63
+  fee-id-piece = simp length-append (omega (arith, fee-id-pieces))
+
+  rdh0-section : (expected : ℕ) (its : Bool) → expected < 256 → length (section "RDH0: " (rdh0Tests expected its (h .rdh0))) ≤ 174
+  unfolding rdh0Tests span value
+  rdh0-section expected its small =
+      under "RDH0: " _
+      (and-piece _ _ (header-id-piece expected small)
+      (and-piece _ _ (hex-piece "Header size = " 1 (h .rdh0 .«header_size») (omega (arith, fits header-size)))
+      (and-piece _ _ fee-id-piece
+      (and-piece _ _ (hex-piece "Priority bit = " 1 (h .rdh0 .«priority_bit») (omega (arith, fits priority-bit)))
+      (and-piece _ _ (hex-piece "system_id = " 1 (h .rdh0 .«system_id») (omega (arith, fits system-id)))
+      (and-piece _ _ (hex-piece "reserved0 = " 3 (h .rdh0 .reserved0) (omega (arith, fits rdh0-reserved0))) no-piece))))))
+
+  rdh1-section : length (section "RDH1: " (rdh1Tests (h .rdh1))) ≤ 37
+  unfolding rdh1Tests span value
+  rdh1-section =
+      let n = h .rdh1 .«bc_reserved0» .0 in
+      under "RDH1: " _
+      (and-piece _ _ (hex-piece "reserved0 = " 4 (bcReservedOf n) (omega arith))
+      (and-piece _ _ (hex-piece "BC = " 2 (bcOf n) (omega arith)) no-piece))
+
+  rdh2-section : length (section "RDH2: " (rdh2Tests (h .rdh2))) ≤ 83
+  unfolding rdh2Tests span value
+  rdh2-section =
+      under "RDH2: " _
+      (and-piece _ _ (hex-piece "reserved0 = " 1 (h .rdh2 .reserved0) (omega (arith, fits rdh2-reserved0)))
+      (and-piece _ _ (hex-piece "stop bit = " 1 (h .rdh2 .«stop_bit») (omega (arith, fits stop-bit)))
+      (and-piece _ _ (hex-piece "Spare bits set in trigger_type = " 7 (h .rdh2 .«trigger_type») (omega (arith, fits trigger-type))) no-piece)))
+
+  rdh3-section : length (section "RDH3: " (rdh3Tests (h .rdh3))) ≤ 53
+  unfolding rdh3Tests span value
+  rdh3-section =
+      under "RDH3: " _
+      (and-piece _ _ (hex-piece "reserved0 = " 3 (h .rdh3 .reserved0) (omega (arith, fits rdh3-reserved0)))
+      (and-piece _ _ (hex-piece "detector_field = " 7 (h .rdh3 .«detector_field») (omega (arith, fits detector-field))) no-piece))
+
+  cru-pieces : length (pieces (cruTests h)) ≤ 28
+  unfolding cruTests span value
+  cru-pieces =
+      and-piece _ _ (hex-piece "dw = " 0 (dwOf (h .«cruid_dw» .0)) (omega arith))
+      (and-piece _ _ (hex-piece "data format = " 1 (dataFormatOf (h .«dataformat_reserved0» .0)) (omega arith)) no-piece)
+
+  pub longest-text : (expected : ℕ) (its : Bool) → expected < 256 → length (failureText expected its h) ≤ 406
+  unfolding failureText
+  longest-text expected its small =
+      simp length-append
+      (omega (arith, rdh0-section expected its small, rdh1-section, rdh2-section, rdh3-section, cru-pieces))

@@ -24,12 +24,13 @@ fails-requires-5 c κs = search needs
 returns : tie.Need-returns
 unfolding allTests
 returns c =
-    rw
-    (c .before .before .before .before .fails .ensures,
-    c .before .before .before .fails2 .ensures,
-    c .before .before .fails3 .ensures,
-    c .before .fails4 .ensures,
-    c .fails5 .ensures)
+    rw (
+      c .before .before .before .before .fails .ensures,
+      c .before .before .before .fails2 .ensures,
+      c .before .before .fails3 .ensures,
+      c .before .fails4 .ensures,
+      c .fails5 .ensures,
+    )
     (sym (any-of-5-lists _ _ _ _ _))
 
 pub fails-spec : {M : Type 1} → statement M

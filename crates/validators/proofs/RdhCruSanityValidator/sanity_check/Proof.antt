@@ -1,13 +1,12 @@
+-- A sound header, a text that does not fit and one that does are the three cases of what a check answers and leaves.
+use mathlib.Core.Path.{ap, sym, subst, _∙_}
+use native.Mathlib.Omega.{arith}
+use lib.ListN.{length}
+use Rattle.text.specs.PutLaws.{respelled}
+use Rattle.validators.specs.VerdictLaws.{checks-sound, checks-too-short, checks-unsound, judged, named}
 use borrow.Author.Needs.{needs}
 use Rattle.validators.proofs.RdhCruSanityValidator.sanity_check.Statement.{statement}
 use Rattle.validators.proofs.RdhCruSanityValidator.sanity_check.Tie as tie
-use Rattle.validators.proofs.RdhCruSanityValidator.sanity_check.Reads as reads
-use Rattle.validators.proofs.RdhCruSanityValidator.sanity_check.Lts as lts
-use Rattle.validators.proofs.expected_id.Reads as expected-id-reads
-use Rattle.validators.proofs.fails.Reads as fails-reads
-use Rattle.validators.proofs.needed.Reads as needed-reads
-use Rattle.validators.proofs.put_text.Reads as put-text-reads
-use Rattle.validators.proofs.settled_id.Reads as settled-id-reads
 
 expected-id-requires : tie.Need-expected-id-requires
 expected-id-requires c κs = search needs
@@ -19,13 +18,22 @@ fails-requires : tie.Need-fails-requires
 fails-requires c κs = search needs
 
 returns : tie.Need-returns
-returns c = ?
+returns c =
+    let args = c .before .before .before .before .before .args in
+    checks-sound (args .self) (args .rdh) _ _ (c .before .before .settled-id .ensures)
+    (judged (args .self) (args .rdh) _ (c .before .before .before .expected-id .ensures) (c .before .fails .ensures) (c .if1 .taken))
 
 needed-requires : tie.Need-needed-requires
 needed-requires c κs = search needs
 
 returns-2 : tie.Need-returns-2
-returns-2 c = ?
+returns-2 c =
+    let test = c .before .before in
+    let args = test .before .before .before .before .before .args in
+    let expected = test .before .before .before .expected-id .ensures in
+    let unsound = judged (args .self) (args .rdh) _ expected (test .before .fails .ensures) (test .if1 .left) in
+    checks-too-short (args .self) (args .rdh) _
+    (c .before .needed .ensures .exact (c .if2 .taken) ∙ ap length (named (args .self) (args .rdh) _ expected unsound)) (c .if2 .taken)
 
 put-text-requires : tie.Need-put-text-requires
 put-text-requires c κs = search needs
@@ -34,7 +42,16 @@ same-length : tie.Need-same-length
 same-length c = search needs
 
 returns-3 : tie.Need-returns-3
-returns-3 c = ?
+returns-3 c =
+    let room = c .before .before .before .before in
+    let test = room .before .before in
+    let args = test .before .before .before .before .before .args in
+    let expected = test .before .before .before .expected-id .ensures in
+    let unsound = judged (args .self) (args .rdh) _ expected (test .before .fails .ensures) (test .if1 .left) in
+    let text = named (args .self) (args .rdh) _ expected unsound in
+    checks-unsound (args .self) (args .rdh) _ _ (test .before .before .settled-id .ensures) unsound
+    (omega (arith, room .before .needed .ensures .fits (room .if2 .left), ap length text))
+    (respelled text (c .before .before .put-text .ensures))
 
 pub sanity-check-spec : {M : Type 1} → statement M
 sanity-check-spec =

@@ -1,0 +1,97 @@
+-- Laws of a verdict: sound headers, and headers whose text fits or does not fit the buffer.
+use Prim.Native.Nat.{ℕ, _≤_, _<_}
+use mathlib.Core.Bool.{Bool, true, false, not}
+use mathlib.Core.Path.{_≡_, refl, ap, sym, _∙_}
+use mathlib.Core.List.{List, [], _∷_, _++_}
+use native.Mathlib.Omega.{arith}
+use borrow.Author.Tests.{le-leb, lt-leb}
+use lib.Dec.{leb}
+use lib.IntN.{pos}
+use lib.ListN.{length}
+use Rattle.basis.specs.Pick.{on, off}
+use Rattle.basis.specs.Refusals.{gives, refuses}
+use Rattle.rdh.specs.declared.rdh_cru.RdhCru.{RdhCru}
+use Rattle.text.specs.Put.{Put}
+use Rattle.text.specs.Written.{overwritten}
+use Rattle.text.specs.WrittenLaws.{fitting}
+use Rattle.validators.specs.declared.HeaderId.{HeaderId}
+use Rattle.validators.specs.declared.RdhCruSanityValidator.{RdhCruSanityValidator}
+use Rattle.validators.specs.declared.Verdict.the-variants.{Sound, NotSound, TooShort}
+use Rattle.validators.specs.Tests.{allTests, anyFails, failureText, sound, verdictText}
+use Rattle.validators.specs.Verdict.{Checks, Judged, answered, expectedId, settledBy, settledId, soundTo, textOf, validatorAfter}
+
+-- the text of a sound header is empty, and of another the one that names its failures
+pub sound-text : (expected : ℕ) (its : Bool) (h : RdhCru) → sound expected its h ≡ true → verdictText expected its h ≡ []
+unfolding verdictText
+sound-text expected its h e = on _ _ e
+
+pub unsound-text : (expected : ℕ) (its : Bool) (h : RdhCru) → sound expected its h ≡ false
+    → verdictText expected its h ≡ failureText expected its h
+unfolding verdictText
+unsound-text expected its h e = off _ _ e
+
+module _ (v : RdhCruSanityValidator) (h : RdhCru) (l : List ℕ) where
+  -- a text that fits: the verdict, the ID settled, and the text over the buffer's start
+  answered-fitting : length (textOf v h) ≤ length l
+      → answered v h (length l) ≡ gives (record { is-sound = soundTo v h; text-length = length (textOf v h) })
+  unfolding answered
+  answered-fitting fits = on _ _ (le-leb _ _ fits)
+
+  after-fitting : length (textOf v h) ≤ length l → validatorAfter v h (length l) ≡ settledBy v h
+  unfolding validatorAfter
+  after-fitting fits = on _ _ (le-leb _ _ fits)
+
+module _ (v : RdhCruSanityValidator) (h : RdhCru) (l : List ℕ) (settled : HeaderId)
+    (is-settled : settled ≡ settledId (v .«header_id») (h .rdh0 .«header_id»)) where
+  settles : _≡_ {A = RdhCruSanityValidator} (record { «header_id» = settled; its = v .its }) (settledBy v h)
+  unfolding settledBy
+  settles = ap (λ (n : HeaderId). record { «header_id» = n; its = v .its }) is-settled
+
+  pub checks-sound : soundTo v h ≡ true
+      → Checks v h l (record { verdict = Sound; validator = record { «header_id» = settled; its = v .its } }) l
+  unfolding soundTo textOf overwritten
+  checks-sound e =
+      let text : textOf v h ≡ [] = sound-text _ _ _ e in
+      let fits : length (textOf v h) ≤ length l = omega (arith, ap length text) in
+      record {
+        verdict =
+            sym (answered-fitting v h l fits
+            ∙ (λ i. gives (record { is-sound = e i; text-length = length (text i) })));
+        validator = settles ∙ sym (after-fitting v h l fits);
+        leaves = sym (ap (λ (t : List ℕ). overwritten t l) text ∙ on _ _ (le-leb 0 (length l) (omega arith)));
+      }
+
+  pub checks-unsound : {m : List ℕ} {n : ℕ} → soundTo v h ≡ false → length (textOf v h) ≤ length l → Put l 0 (textOf v h) m n
+      → Checks v h l (record { verdict = NotSound n; validator = record { «header_id» = settled; its = v .its } }) m
+  checks-unsound {n = n} e fits p =
+      let is : n ≡ length (textOf v h) = omega (arith, p .next, p .room) in
+      record {
+        verdict =
+            sym (answered-fitting v h l fits ∙ (λ i. gives (record { is-sound = e i; text-length = sym is i })));
+        validator = settles ∙ sym (after-fitting v h l fits);
+        leaves = fitting fits p .leaves;
+      }
+
+-- a text that does not fit: refusal 7 with its length, nothing settled and nothing written
+pub checks-too-short : (v : RdhCruSanityValidator) (h : RdhCru) (l : List ℕ) {need : ℕ} → need ≡ length (textOf v h) → length l < need
+    → Checks v h l (record { verdict = TooShort need; validator = v }) l
+unfolding answered validatorAfter overwritten
+checks-too-short v h l is short =
+    let longer : length l < length (textOf v h) = omega arith in
+    record {
+      verdict = ap (λ (n : ℕ). refuses 7 (pos n ∷ [])) is ∙ sym (off _ _ (lt-leb _ _ longer));
+      validator = sym (off _ _ (lt-leb _ _ longer));
+      leaves = sym (off _ _ (lt-leb _ _ longer));
+    }
+
+module _ (v : RdhCruSanityValidator) (h : RdhCru) (expected : ℕ)
+    (is-expected : expected ≡ expectedId (v .«header_id») (h .rdh0 .«header_id»)) where
+  -- a header is sound where no test fails
+  pub judged : {fails b : Bool} → fails ≡ anyFails (allTests expected (v .its) h) → not fails ≡ b → soundTo v h ≡ b
+  unfolding soundTo sound
+  judged is e = sym (ap not is ∙ ap (λ (n : ℕ). not (anyFails (allTests n (v .its) h))) is-expected) ∙ e
+
+  -- and otherwise its text names the failures
+  pub named : soundTo v h ≡ false → failureText expected (v .its) h ≡ textOf v h
+  unfolding soundTo textOf
+  named e = ap (λ (n : ℕ). failureText n (v .its) h) is-expected ∙ sym (unsound-text _ _ _ e)
