@@ -3,3 +3,5 @@ pub mod TestsLaws
 pub mod TextLengths
 pub mod Verdict
 pub mod VerdictLaws
+pub mod Verdicts
+pub mod VerdictsLaws

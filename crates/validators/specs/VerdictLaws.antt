@@ -7,10 +7,12 @@ use native.Mathlib.Omega.{arith}
 use borrow.Author.Tests.{le-leb, lt-leb}
 use lib.Dec.{leb}
 use lib.IntN.{pos}
-use lib.ListN.{length}
+use lib.ListN.{length, length-append}
+use mathlib.Core.Logic.{_↔_}
 use Rattle.basis.specs.Pick.{on, off}
 use Rattle.basis.specs.Refusals.{gives, refuses}
 use Rattle.rdh.specs.declared.rdh_cru.RdhCru.{RdhCru}
+use Rattle.rdh.specs.Layout.{Fits}
 use Rattle.text.specs.Put.{Put}
 use Rattle.text.specs.Written.{overwritten}
 use Rattle.text.specs.WrittenLaws.{fitting}
@@ -18,6 +20,7 @@ use Rattle.validators.specs.declared.HeaderId.{HeaderId}
 use Rattle.validators.specs.declared.RdhCruSanityValidator.{RdhCruSanityValidator}
 use Rattle.validators.specs.declared.Verdict.the-variants.{Sound, NotSound, TooShort}
 use Rattle.validators.specs.Tests.{allTests, anyFails, failureText, sound, verdictText}
+use Rattle.validators.specs.TextLengths.{longest-text}
 use Rattle.validators.specs.Verdict.{Checks, Judged, answered, expectedId, settledBy, settledId, soundTo, textOf, validatorAfter}
 
 -- the text of a sound header is empty, and of another the one that names its failures
@@ -29,6 +32,28 @@ pub unsound-text : (expected : ℕ) (its : Bool) (h : RdhCru) → sound expected
     → verdictText expected its h ≡ failureText expected its h
 unfolding verdictText
 unsound-text expected its h e = off _ _ e
+
+-- a text that names failures is not empty
+some-text : (expected : ℕ) (its : Bool) (h : RdhCru) → 0 < length (failureText expected its h)
+unfolding failureText
+some-text expected its h = simp length-append (omega arith)
+
+-- a header is sound exactly when its text is empty
+pub sound-empty : (expected : ℕ) (its : Bool) (h : RdhCru) → (sound expected its h ≡ true) ↔ (verdictText expected its h ≡ [])
+sound-empty expected its h = (sound-text expected its h, λ e. go (sound expected its h) refl e)
+  where
+    go : (b : Bool) → sound expected its h ≡ b → verdictText expected its h ≡ [] → sound expected its h ≡ true
+    go true is e = is
+    go false is e =
+        absurd (omega (arith, some-text expected its h, ap length (sym (unsound-text expected its h is) ∙ e)))
+
+-- "512 bytes always suffice"
+pub suffice : (expected : ℕ) (its : Bool) (h : RdhCru) → expected < 256 → Fits h → length (verdictText expected its h) ≤ 512
+suffice expected its h small fits = go (sound expected its h) refl
+  where
+    go : (b : Bool) → sound expected its h ≡ b → length (verdictText expected its h) ≤ 512
+    go true is = omega (arith, ap length (sound-text expected its h is))
+    go false is = omega (arith, ap length (unsound-text expected its h is), longest-text h fits expected its small)
 
 module _ (v : RdhCruSanityValidator) (h : RdhCru) (l : List ℕ) where
   -- a text that fits: the verdict, the ID settled, and the text over the buffer's start

@@ -1,7 +1,6 @@
 // The verdict: whether a header is sound, in the Rust's words. A module for each word of the header, as the Rust has a validator for
 // each.
 ghost use mathlib.Core.Path.{_≡_};
-ghost use mathlib.Core.Bool.{Bool, false, true};
 ghost use Rattle.validators.specs.Tests.{allTests, anyFails, failureText};
 ghost use Rattle.validators.specs.Verdict.{Checks, Needed, expectedId, settledId};
 ghost use Rattle.text.specs.Put.{Put};
@@ -22,7 +21,8 @@ pub enum HeaderId {
     Settled(u8),
 }
 
-// A validator: its settings, and what it has settled.
+// A validator: its settings (a configured version or none, and whether the system id is tested as that of the ITS), and what it has
+// settled. A new one is `Configured` or `NotSettled`.
 pub struct RdhCruSanityValidator {
     pub header_id: HeaderId,
     pub its: bool,
@@ -45,37 +45,6 @@ pub struct SanityCheck {
 const LONGEST_TEXT: usize = 406;
 
 impl RdhCruSanityValidator {
-    // No version is configured, and the system id is not tested.
-    pub fn new() -> Self
-        ensures { λ r. ⌜ r ≡ record { «header_id» = HeaderId.NotSettled; its = false } ⌝ }
-    {
-        Self {
-            header_id: HeaderId::NotSettled,
-            its: false,
-        }
-    }
-
-    // Every header is held to this version.
-    pub fn with_version(rdh_version: u8) -> Self
-        ensures { λ r. ⌜ r ≡ record { «header_id» = HeaderId.Configured «rdh_version»; its = false } ⌝ }
-    {
-        Self {
-            header_id: HeaderId::Configured(rdh_version),
-            its: false,
-        }
-    }
-
-    // The same validator, specialized for the inner tracking system: the system id is tested too.
-    pub fn specialize(self) -> Self
-        ensures { λ r. ⌜ r ≡ record { «header_id» = self .«header_id»; its = true } ⌝ }
-    {
-        let header_id = self.header_id;
-        Self {
-            header_id,
-            its: true,
-        }
-    }
-
     // Checks a header, and writes the text that names what is wrong with it at the start of `text`. The first header checked settles the
     // header ID, sound or not; a refused check settles nothing.
     pub fn sanity_check(self, rdh: RdhCru, text: &mut [u8]) -> SanityCheck

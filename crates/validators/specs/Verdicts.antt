@@ -1,0 +1,62 @@
+-- A list of verdicts on one validator: the third part of demand 3, "In any list of verdicts on one validator, refused ones included,
+-- verdict, text and refusal 7 follow as document 01 says from its settings and starting state, the headers put and the text buffers'
+-- lengths".
+use Prim.Native.Nat.{ℕ}
+use mathlib.Core.Bool.{Bool}
+use mathlib.Core.Path.{_≡_, refl, ap, sym, _∙_}
+use mathlib.Core.List.{List, [], _∷_, _++_}
+use lib.Dec.{leb}
+use lib.ListN.{length}
+use Rattle.basis.specs.Pick.{pick}
+use Rattle.basis.specs.Refusals.{Answer}
+use Rattle.rdh.specs.declared.rdh_cru.RdhCru.{RdhCru}
+use Rattle.validators.specs.declared.HeaderId.{HeaderId}
+use Rattle.validators.specs.declared.HeaderId.the-variants.{Configured, NotSettled, Settled}
+use Rattle.validators.specs.declared.RdhCruSanityValidator.{RdhCruSanityValidator}
+use Rattle.validators.specs.Tests.{verdictText}
+use Rattle.validators.specs.Verdict.{Judged, answered, settledBy, textOf, validatorAfter}
+
+-- A header put, and the length of the text buffer lent.
+pub record Call : Type 0 where
+  pub header : RdhCru
+  pub room : ℕ
+
+-- What a call gives: the verdict or refusal 7, and the text written, which is empty where it is refused.
+pub record Reply : Type 0 where
+  pub verdict : Answer Judged
+  pub text : List ℕ
+
+unfoldable pub reply : RdhCruSanityValidator → Call → Reply
+reply v c =
+    record {
+      verdict = answered v (c .header) (c .room);
+      text = pick (leb (length (textOf v (c .header))) (c .room)) (textOf v (c .header)) [];
+    }
+
+-- The replies to a list of calls, each on the validator that the last one left.
+unfoldable pub replies : RdhCruSanityValidator → List Call → List Reply
+replies v [] = []
+replies v (c ∷ cs) = reply v c ∷ replies (validatorAfter v (c .header) (c .room)) cs
+
+-- The header ID that a call's header has.
+abbrev pub idOf : Call → ℕ
+idOf c = c .header .rdh0 .«header_id»
+
+-- Whether a call settles the ID on a validator that has settled none: its text, for a header held to its own ID, fits the buffer.
+unfoldable pub settling : Bool → Call → Bool
+settling its c = leb (length (verdictText (idOf c) its (c .header))) (c .room)
+
+-- "The first header checked settles the header ID for all later ones": the first call of the list that is not refused.
+unfoldable pub firstSettled : Bool → List Call → HeaderId
+firstSettled its [] = NotSettled
+firstSettled its (c ∷ cs) = pick (settling its c) (Settled (idOf c)) (firstSettled its cs)
+
+-- What a validator holds headers to after a list of calls, "unless a version was configured".
+unfoldable pub settledOver : HeaderId → Bool → List Call → HeaderId
+settledOver (Configured n) its cs = Configured n
+settledOver NotSettled its cs = firstSettled its cs
+settledOver (Settled n) its cs = Settled n
+
+-- The validator after a list of calls.
+unfoldable pub validatorOver : RdhCruSanityValidator → List Call → RdhCruSanityValidator
+validatorOver v cs = record { «header_id» = settledOver (v .«header_id») (v .its) cs; its = v .its }

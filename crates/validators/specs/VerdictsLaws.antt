@@ -1,0 +1,85 @@
+-- Every reply in a list of verdicts follows from the settings, the starting state and the calls up to it.
+use Prim.Native.Nat.{ℕ}
+use mathlib.Core.Bool.{Bool, true, false}
+use mathlib.Core.Path.{_≡_, refl, ap, sym, _∙_}
+use mathlib.Core.List.{List, [], _∷_, _++_}
+use lib.Dec.{leb}
+use lib.ListN.{length}
+use Rattle.basis.specs.Pick.{pick}
+use Rattle.rdh.specs.declared.rdh_cru.RdhCru.{RdhCru}
+use Rattle.validators.specs.declared.HeaderId.{HeaderId}
+use Rattle.validators.specs.declared.HeaderId.the-variants.{Configured, NotSettled, Settled}
+use Rattle.validators.specs.declared.RdhCruSanityValidator.{RdhCruSanityValidator}
+use Rattle.validators.specs.Verdict.{settledBy, textOf, validatorAfter}
+use Rattle.validators.specs.Verdicts.{Call, Reply, reply, replies, settling, firstSettled, settledOver, validatorOver}
+
+-- The statement: in a list of calls, what is answered to a call that stands behind others is the reply of the validator that
+-- `validatorOver` makes of the starting one and those others, whatever comes after.
+abbrev pub Follows : Type 0
+Follows =
+    (v : RdhCruSanityValidator) (earlier : List Call) (c : Call) (later : List Call)
+    → replies v (earlier ++ (c ∷ later))
+    ≡ replies v earlier ++ (reply (validatorOver v earlier) c ∷ replies (validatorOver v (earlier ++ (c ∷ []))) later)
+
+-- the validator as the calls leave it, one after the other
+left : RdhCruSanityValidator → List Call → RdhCruSanityValidator
+left v [] = v
+left v (c ∷ cs) = left (validatorAfter v (c .header) (c .room)) cs
+
+same : (b : Bool) (v : RdhCruSanityValidator) → pick b v v ≡ v
+same true v = refl
+same false v = refl
+
+-- a configured or settled ID stays
+stays : (v : RdhCruSanityValidator) → ((h : RdhCru) → settledBy v h ≡ v) → (cs : List Call) → left v cs ≡ v
+unfolding left validatorAfter
+stays v keeps [] = refl
+stays v keeps (c ∷ cs) =
+    let kept : validatorAfter v (c .header) (c .room) ≡ v =
+    ap (λ (w : RdhCruSanityValidator). pick (leb (length (textOf v (c .header))) (c .room)) w v) (keeps (c .header))
+    ∙ same (leb (length (textOf v (c .header))) (c .room)) v in
+    ap (λ (w : RdhCruSanityValidator). left w cs) kept ∙ stays v keeps cs
+
+-- where none is settled, the first call that is not refused settles its own
+first : (its : Bool) (cs : List Call)
+    → left (record { «header_id» = NotSettled; its = its }) cs ≡ record { «header_id» = firstSettled its cs; its = its }
+unfolding left firstSettled settling validatorAfter settledBy textOf
+first its [] = refl
+first its (c ∷ cs) = go (settling its c) (first its cs)
+  where
+    id : ℕ
+    id = c .header .rdh0 .«header_id»
+
+    unsettled : RdhCruSanityValidator
+    unsettled = record { «header_id» = NotSettled; its = its }
+
+    settled : RdhCruSanityValidator
+    settled = record { «header_id» = Settled id; its = its }
+
+    go : (b : Bool) → left unsettled cs ≡ record { «header_id» = firstSettled its cs; its = its }
+        → left (pick b settled unsettled) cs ≡ record { «header_id» = pick b (Settled id) (firstSettled its cs); its = its }
+    go true ih = stays settled (λ h. refl) cs
+    go false ih = ih
+
+over : (v : RdhCruSanityValidator) (cs : List Call) → left v cs ≡ validatorOver v cs
+unfolding validatorOver settledOver settledBy
+over v cs = go (v .«header_id»)
+  where
+    go : (i : HeaderId)
+        → left (record { «header_id» = i; its = v .its }) cs ≡ record { «header_id» = settledOver i (v .its) cs; its = v .its }
+    go (Configured n) = stays (record { «header_id» = Configured n; its = v .its }) (λ h. refl) cs
+    go NotSettled = first (v .its) cs
+    go (Settled n) = stays (record { «header_id» = Settled n; its = v .its }) (λ h. refl) cs
+
+in-turn : (v : RdhCruSanityValidator) (earlier : List Call) (c : Call) (later : List Call)
+    → replies v (earlier ++ (c ∷ later))
+    ≡ replies v earlier ++ (reply (left v earlier) c ∷ replies (left v (earlier ++ (c ∷ []))) later)
+unfolding replies left
+in-turn v [] c later = refl
+in-turn v (e ∷ earlier) c later =
+    ap (λ (rs : List Reply). reply v e ∷ rs) (in-turn (validatorAfter v (e .header) (e .room)) earlier c later)
+
+pub follows : Follows
+follows v earlier c later =
+    in-turn v earlier c later
+    ∙ (λ i. replies v earlier ++ (reply (over v earlier i) c ∷ replies (over v (earlier ++ (c ∷ [])) i) later))
