@@ -73,7 +73,7 @@ impl RdhCruSanityValidator {
         }
         SanityCheck {
             verdict: Verdict::NotSound(put_text(text, 0, expected, its, rdh)),
-            validator: settled,
+            validator: settled, // the ID is settled though the header fails
         }
     }
 }

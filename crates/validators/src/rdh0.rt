@@ -80,7 +80,7 @@ fn put_header_id(out: &mut [u8], at: usize, expected: u8, header_id: u8) -> usiz
     let at = text::put_decimal(out, at, header_id as u64);
     let at = text::put_bytes(out, at, b" (expected ");
     let at = text::put_decimal(out, at, expected as u64);
-    text::put_byte(out, at, b')')
+    text::put_bytes(out, at, b")")
 }
 
 // The pieces of the FEE id's own tests, between brackets.

@@ -262,8 +262,8 @@ fn sequences() {
     show::text(b"a refused check settles nothing\n");
     let v = check(unsettled(false), changed(Change::HeaderSize(1)), 3);
     let v = check(v, changed(Change::HeaderId(9)), 0);
-    let v = check(v, changed(Change::None), 66);
-    let v = check(v, changed(Change::None), 67);
+    let v = check(v, changed(Change::None), 62);
+    let v = check(v, changed(Change::None), 63);
     check(v, changed(Change::HeaderId(9)), 0);
     show::text(b"a configured version is never settled anew\n");
     let v = check(configured(6, true), changed(Change::None), 70);

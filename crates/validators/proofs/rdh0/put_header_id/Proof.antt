@@ -33,8 +33,11 @@ put-bytes-requires-2 c κs = search needs
 put-decimal-requires-2 : tie.Need-put-decimal-requires-2
 put-decimal-requires-2 c κs = search needs
 
-put-byte-requires : tie.Need-put-byte-requires
-put-byte-requires c κs = search needs
+slice-aggregate-put-bytes-3 : tie.Need-slice-aggregate-put-bytes-3
+slice-aggregate-put-bytes-3 c = search needs
+
+put-bytes-requires-3 : tie.Need-put-bytes-requires-3
+put-bytes-requires-3 c κs = search needs
 
 same-length : tie.Need-same-length
 same-length c = search needs
@@ -42,14 +45,14 @@ same-length c = search needs
 returns-2 : tie.Need-returns-2
 returns-2 c =
     let end = c .before .before in
-    let held = end .before .before .before .before in
+    let held = end .before .before .before .before .before in
     let between = held .before .before .before .before in
     let id = between .before .before .before .before .before in
     let label = id .before .before .before .before in
     let test = label .before .before .before in
     let args = test .before .before .args in
     failed (not (eqb (args .header-id) (args .expected))) (ap (λ b. not (not b)) (ne-eqb _ _ (test .if1 .left)))
-    (and-then (and-then (and-then (and-then (label .put-bytes .ensures) (id .put-decimal .ensures)) (between .put-bytes2 .ensures)) (held .put-decimal2 .ensures)) (end .put-byte .ensures))
+    (and-then (and-then (and-then (and-then (label .put-bytes .ensures) (id .put-decimal .ensures)) (between .put-bytes2 .ensures)) (held .put-decimal2 .ensures)) (end .put-bytes3 .ensures))
 
 pub put-header-id-spec : {M : Type 1} → statement M
 put-header-id-spec =
@@ -62,6 +65,7 @@ put-header-id-spec =
     slice-aggregate-put-bytes-2
     put-bytes-requires-2
     put-decimal-requires-2
-    put-byte-requires
+    slice-aggregate-put-bytes-3
+    put-bytes-requires-3
     same-length
     returns-2)

@@ -1,7 +1,14 @@
 -- The heading and the two pieces, one behind the other, where any test fails.
-use Rattle.text.specs.PutLaws.{and-then}
+use Rattle.text.specs.PutLaws.{and-then, respelled}
 use Rattle.validators.specs.Tests.{pieces, rdh3Tests}
 use Rattle.validators.proofs.Pieces.{a-section, last-piece, no-section}
+use Prim.Native.Nat.{ℕ}
+use mathlib.Core.Bool.{not}
+use mathlib.Core.Path.{ap}
+use mathlib.Core.List.{[]}
+use lib.Dec.{eqb}
+use Rattle.basis.specs.Pick.{pick}
+use Rattle.validators.specs.Tests.{hexPiece}
 use native.Mathlib.Omega.{arith}
 use borrow.Author.Needs.{needs}
 use Rattle.validators.proofs.rdh3.put.Statement.{statement}
@@ -14,6 +21,9 @@ returns : tie.Need-returns
 returns c =
     let args = c .before .before .before .args in
     no-section "RDH3: " (rdh3Tests (args .rdh3)) _ _ (c .before .fails .ensures) (c .if1 .taken) (omega arith) (omega arith)
+
+reserved-bits-12-to-23-requires : tie.Need-reserved-bits-12-to-23-requires
+reserved-bits-12-to-23-requires c κs = search needs
 
 slice-aggregate-put-bytes : tie.Need-slice-aggregate-put-bytes
 slice-aggregate-put-bytes c = search needs
@@ -52,7 +62,7 @@ returns-2 c =
     let args = test .before .before .before .args in
     a-section "RDH3: " (rdh3Tests (args .rdh3)) (test .before .fails .ensures) (test .if1 .left) (heading .put-bytes .ensures)
     (and-then (reserved .put-hex .ensures)
-    (last-piece (detector .put-hex2 .ensures)))
+    (last-piece (respelled (ap (λ (n : ℕ). pick (not (eqb n 0)) (hexPiece "detector_field = " (args .rdh3 .«detector_field»)) []) (heading .before .before .before .reserved-bits-12-to-23 .ensures)) (detector .put-hex2 .ensures))))
 
 pub put-spec : {M : Type 1} → statement M
 put-spec =
@@ -60,6 +70,7 @@ put-spec =
     (tie.spec
     fails-requires
     returns
+    reserved-bits-12-to-23-requires
     slice-aggregate-put-bytes
     put-bytes-requires
     slice-aggregate-put-hex
