@@ -1,1 +1,3 @@
+pub mod Joined
 pub mod Stores
+pub mod Words

@@ -1,6 +1,8 @@
 -- The 64 bytes of a header as a table, and what follows from the table: the header that bytes hold, the bytes that a header is, and
 -- what decoding and encoding answer (document 01, "The 64 bytes").
 use mathlib.Core.Path.{_≡_}
+use mathlib.Core.Bool.{Bool, true}
+use mathlib.Core.Logic.{_↔_}
 use mathlib.Core.List.{List, [], _∷_, _++_}
 use Prim.Native.Nat.{ℕ, _+_, _<_, _^_}
 use lib.Dec.{ltb}
@@ -178,3 +180,8 @@ encode l = pick (ltb (length l) 64) (refuses 9 []) (gives tt)
 -- What the buffer then holds: "encoding writes the first 64 and no more", and with the refusal "nothing written".
 unfoldable pub encodedInto : RdhCru → List ℕ → List ℕ
 encodedInto h l = pick (ltb (length l) 64) l (encoded h ++ drop 64 l)
+
+-- What equality answers: true exactly when the two headers have the same bytes, which is exactly when they are the same header.
+pub record Equal (a b : RdhCru) (answer : Bool) : Type 0 where
+  pub by-bytes : (answer ≡ true) ↔ (encoded a ≡ encoded b)
+  pub as-headers : (answer ≡ true) ↔ (a ≡ b)

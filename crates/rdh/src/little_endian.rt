@@ -36,33 +36,15 @@ pub(crate) fn read_u64(buf: &[u8], i: usize) -> u64
     low + 4294967296 * high
 }
 
-pub(crate) fn write_u8(out: &mut [u8], i: usize, n: u8)
-    requires { ⌜ i + 1 ≤ length (now out) ⌝ }
-    ensures { λ _. ⌜ now (out .exit) ≡ sets (now (out .entry)) i (bytesOf 1 n) ⌝ }
-{
-    out[i] = n;
-}
-
-pub(crate) fn write_u16(out: &mut [u8], i: usize, n: u16)
-    requires { ⌜ i + 2 ≤ length (now out) ⌝ }
-    ensures { λ _. ⌜ now (out .exit) ≡ sets (now (out .entry)) i (bytesOf 2 n) ⌝ }
-{
-    write_u8(out, i, (n % 256) as u8);
-    write_u8(out, i + 1, (n / 256) as u8);
-}
-
-pub(crate) fn write_u32(out: &mut [u8], i: usize, n: u32)
-    requires { ⌜ i + 4 ≤ length (now out) ⌝ }
-    ensures { λ _. ⌜ now (out .exit) ≡ sets (now (out .entry)) i (bytesOf 4 n) ⌝ }
-{
-    write_u16(out, i, (n % 65536) as u16);
-    write_u16(out, i + 2, (n / 65536) as u16);
-}
-
 pub(crate) fn write_u64(out: &mut [u8], i: usize, n: u64)
     requires { ⌜ i + 8 ≤ length (now out) ⌝ }
     ensures { λ _. ⌜ now (out .exit) ≡ sets (now (out .entry)) i (bytesOf 8 n) ⌝ }
 {
-    write_u32(out, i, (n % 4294967296) as u32);
-    write_u32(out, i + 4, (n / 4294967296) as u32);
+    let mut rest = n;
+    let mut k = 0;
+    while k < 8 {
+        out[i + k] = (rest % 256) as u8;
+        rest = rest / 256;
+        k += 1;
+    }
 }

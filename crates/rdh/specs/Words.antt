@@ -1,0 +1,17 @@
+-- A header as the code goes through it: eight words of eight bytes.
+use mathlib.Core.Path.{_≡_}
+use mathlib.Core.List.{List, [], _∷_, _++_}
+use Prim.Native.Nat.{ℕ}
+use Rattle.basis.specs.Bytes.{bytesOf}
+use Rattle.rdh.specs.declared.rdh_cru.RdhCru.{RdhCru}
+use Rattle.rdh.specs.Layout.{encoded, Fits}
+
+-- The bytes of numbers that have eight each, in a row.
+unfoldable pub wordBytes : List ℕ → List ℕ
+wordBytes [] = []
+wordBytes (w ∷ ws) = bytesOf 8 w ++ wordBytes ws
+
+-- The words hold the header's bytes, and each field of it is a number that its bytes can hold.
+pub record Words (h : RdhCru) (ws : List ℕ) : Type 0 where
+  pub bytes : wordBytes ws ≡ encoded h
+  pub fits : Fits h
