@@ -1,18 +1,19 @@
--- Words that fit eight bytes come back from their bytes, so headers are the same exactly when their words are.
+-- Laws of words: a number joined from two parts, and words that come back from their bytes.
 use mathlib.Core.Path.{_≡_, refl, sym, ap, ap₂, _∙_}
 use mathlib.Core.List.{List, [], _∷_, _++_}
-use mathlib.Core.Bool.{true, false, false≢true}
-use Prim.Native.Nat.{ℕ, suc, _+_, _<_, _^_}
+use Prim.Native.Nat.{ℕ, suc, _+_, _*_, _<_, _^_}
 use native.Mathlib.Numerals.{add-one}
 use native.Mathlib.Omega.{arith}
 use lib.ListN.{length, take, drop, getD}
 use lib.Seq.{take-at, drop-at, take-suc}
 use Rattle.basis.specs.Bytes.{bytesOf, little}
-use Rattle.basis.specs.BytesLaws.{length-bytesOf, little-bytesOf}
-use Rattle.rdh.specs.declared.rdh_cru.RdhCru.{RdhCru}
-use Rattle.rdh.specs.Layout.{encoded, Equal}
-use Rattle.rdh.specs.LayoutLaws.{same-bytes}
-use Rattle.rdh.specs.Words.{Words, wordBytes}
+use Rattle.basis.specs.BytesLaws.{length-bytesOf, little-bytesOf, bytesOf-join}
+use Rattle.rdh.specs.Words.{Joined, wordBytes}
+
+-- a number joined from two parts
+pub joined : (width low high r : ℕ) → low < 256 ^ width → r ≡ low + 256 ^ width * high → Joined width low high r
+joined width low high r fits e =
+    record { number = e; bytes = ap (bytesOf (width + width)) e ∙ bytesOf-join width width low high fits }
 
 abbrev pub Fit : List ℕ → Type 0
 Fit ws = (k : ℕ) → k < length ws → getD ws k 0 < 256 ^ 8
@@ -39,22 +40,3 @@ pub take-more : (v w : List ℕ) (k : ℕ) → k < length v → k < length w →
     → take (k + 1) v ≡ take (k + 1) w
 take-more v w k p q before here =
     rw (add-one, take-suc v k 0 p, take-suc w k 0 q) (ap₂ (λ (l : List ℕ) (n : ℕ). l ++ (n ∷ [])) before here)
-
--- what equality says of headers by their words
-module _ (a b : RdhCru) (v w : List ℕ) (words-a : Words a v) (words-b : Words b w) where
-  pub equal : v ≡ w → Equal a b true
-  equal e =
-      let bytes : encoded a ≡ encoded b = sym (words-a .bytes) ∙ ap wordBytes e ∙ words-b .bytes in
-      record {
-        by-bytes = (λ _. bytes, λ _. refl);
-        as-headers = (λ _. same-bytes a b (words-a .fits) (words-b .fits) .0 bytes, λ _. refl);
-      }
-
-  pub different : length v ≡ length w → Fit v → Fit w → (v ≡ w → ⊥) → Equal a b false
-  different long fit-v fit-w n =
-      let no : encoded a ≡ encoded b → ⊥ =
-      λ e. n (same-words v w long fit-v fit-w (words-a .bytes ∙ e ∙ sym (words-b .bytes))) in
-      record {
-        by-bytes = (λ t. absurd (false≢true t), λ e. absurd (no e));
-        as-headers = (λ t. absurd (false≢true t), λ e. absurd (no (ap encoded e)));
-      }

@@ -1,39 +1,50 @@
 // Numbers of several bytes, lowest byte first. Each caller knows that the bytes are there.
+ghost use mathlib.Core.Bool.{true};
+ghost use mathlib.Core.Logic.{_↔_};
 ghost use mathlib.Core.Path.{_≡_};
-ghost use Prim.Native.Nat.{_+_, _≤_, _<_};
+ghost use Prim.Native.Nat.{_+_, _≤_};
 ghost use lib.ListN.{length};
 ghost use lib.Seq.{sets};
 ghost use Rattle.basis.specs.Bytes.{bytesOf, numberAt};
+ghost use Rattle.rdh.specs.Words.{Joined, wordBytes};
+
+pub(crate) fn join_u8(low: u8, high: u8) -> u16
+    ensures { λ r. ⌜ Joined 1 low high r ⌝ }
+{
+    low as u16 + 0x100 * (high as u16)
+}
+
+pub(crate) fn join_u16(low: u16, high: u16) -> u32
+    ensures { λ r. ⌜ Joined 2 low high r ⌝ }
+{
+    low as u32 + 0x1_0000 * (high as u32)
+}
+
+pub(crate) fn join_u32(low: u32, high: u32) -> u64
+    ensures { λ r. ⌜ Joined 4 low high r ⌝ }
+{
+    low as u64 + 0x1_0000_0000 * (high as u64)
+}
 
 pub(crate) fn read_u16(buf: &[u8], i: usize) -> u16
     requires { ⌜ i + 2 ≤ length (now buf) ⌝ }
     ensures { λ r. ⌜ r ≡ numberAt (now (buf .entry)) i 2 ⌝ }
 {
-    wide(buf[i]) + 256 * wide(buf[i + 1])
-}
-
-fn wide(x: u8) -> u16
-    ensures { λ r. ⌜ (r ≡ x) × (r < 256) ⌝ }
-{
-    x as u16
+    join_u8(buf[i], buf[i + 1])
 }
 
 pub(crate) fn read_u32(buf: &[u8], i: usize) -> u32
     requires { ⌜ i + 4 ≤ length (now buf) ⌝ }
     ensures { λ r. ⌜ r ≡ numberAt (now (buf .entry)) i 4 ⌝ }
 {
-    let low = read_u16(buf, i) as u32;
-    let high = read_u16(buf, i + 2) as u32;
-    low + 65536 * high
+    join_u16(read_u16(buf, i), read_u16(buf, i + 2))
 }
 
 pub(crate) fn read_u64(buf: &[u8], i: usize) -> u64
     requires { ⌜ i + 8 ≤ length (now buf) ⌝ }
     ensures { λ r. ⌜ r ≡ numberAt (now (buf .entry)) i 8 ⌝ }
 {
-    let low = read_u32(buf, i) as u64;
-    let high = read_u32(buf, i + 4) as u64;
-    low + 4294967296 * high
+    join_u32(read_u32(buf, i), read_u32(buf, i + 4))
 }
 
 pub(crate) fn write_u64(out: &mut [u8], i: usize, n: u64)
@@ -47,4 +58,28 @@ pub(crate) fn write_u64(out: &mut [u8], i: usize, n: u64)
         rest = rest / 256;
         k += 1;
     }
+}
+
+pub(crate) fn write_words(out: &mut [u8], words: [u64; 8])
+    requires { ⌜ 64 ≤ length (now out) ⌝ }
+    ensures { λ _. ⌜ now (out .exit) ≡ sets (now (out .entry)) 0 (wordBytes words) ⌝ }
+{
+    let mut k = 0;
+    while k < 8 {
+        write_u64(out, 8 * k, words[k]);
+        k += 1;
+    }
+}
+
+pub(crate) fn same_words(a: [u64; 8], b: [u64; 8]) -> bool
+    ensures { λ r. ⌜ (r ≡ true) ↔ (wordBytes a ≡ wordBytes b) ⌝ }
+{
+    let mut k = 0;
+    while k < 8 {
+        if a[k] != b[k] {
+            return false;
+        }
+        k += 1;
+    }
+    true
 }

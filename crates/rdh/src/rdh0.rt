@@ -6,6 +6,9 @@ ghost use lib.ListN.{length};
 ghost use Rattle.basis.specs.Bytes.{bytesOf};
 ghost use Rattle.rdh.specs.Layout.{decoded};
 ghost use Rattle.rdh.specs.Subfields.{layerOf, staveOf, uplinkOf};
+use crate::little_endian::join_u8;
+use crate::little_endian::join_u16;
+use crate::little_endian::join_u32;
 use crate::little_endian::read_u16;
 
 // The FEE id, which packs the layer, the fibre uplink and the stave into 16 bits.
@@ -62,11 +65,8 @@ impl Rdh0 {
     pub(crate) fn word(self) -> u64
         ensures { λ r. ⌜ bytesOf 8 r ≡ bytesOf 1 (self .«header_id») ++ (bytesOf 1 (self .«header_size») ++ (bytesOf 2 (self .«fee_id» .0) ++ (bytesOf 1 (self .«priority_bit») ++ (bytesOf 1 (self .«system_id») ++ (bytesOf 2 (self .reserved0)))))) ⌝ }
     {
-        self.header_id as u64
-            + 0x100 * (self.header_size as u64)
-            + 0x1_0000 * (self.fee_id.0 as u64)
-            + 0x1_0000_0000 * (self.priority_bit as u64)
-            + 0x100_0000_0000 * (self.system_id as u64)
-            + 0x1_0000_0000_0000 * (self.reserved0 as u64)
+        let first = join_u16(join_u8(self.header_id, self.header_size), self.fee_id.0);
+        let second = join_u16(join_u8(self.priority_bit, self.system_id), self.reserved0);
+        join_u32(first, second)
     }
 }

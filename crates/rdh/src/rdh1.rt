@@ -6,6 +6,7 @@ ghost use lib.ListN.{length};
 ghost use Rattle.basis.specs.Bytes.{bytesOf};
 ghost use Rattle.rdh.specs.Layout.{decoded};
 ghost use Rattle.rdh.specs.Subfields.{bcOf, bcReservedOf};
+use crate::little_endian::join_u32;
 use crate::little_endian::read_u32;
 
 // The bunch counter, 12 bits, and 20 reserved bits above it.
@@ -32,7 +33,7 @@ impl Rdh1 {
     pub(crate) fn word(self) -> u64
         ensures { λ r. ⌜ bytesOf 8 r ≡ bytesOf 4 (self .«bc_reserved0» .0) ++ (bytesOf 4 (self .orbit)) ⌝ }
     {
-        self.bc_reserved0.0 as u64 + 0x1_0000_0000 * (self.orbit as u64)
+        join_u32(self.bc_reserved0.0, self.orbit)
     }
 
     // The bunch counter.

@@ -5,6 +5,9 @@ ghost use Prim.Native.Nat.{_≤_};
 ghost use lib.ListN.{length};
 ghost use Rattle.basis.specs.Bytes.{bytesOf};
 ghost use Rattle.rdh.specs.Layout.{decoded};
+use crate::little_endian::join_u8;
+use crate::little_endian::join_u16;
+use crate::little_endian::join_u32;
 use crate::little_endian::read_u16;
 use crate::little_endian::read_u32;
 
@@ -33,9 +36,7 @@ impl Rdh2 {
     pub(crate) fn word(self) -> u64
         ensures { λ r. ⌜ bytesOf 8 r ≡ bytesOf 4 (self .«trigger_type») ++ (bytesOf 2 (self .«pages_counter») ++ (bytesOf 1 (self .«stop_bit») ++ (bytesOf 1 (self .reserved0)))) ⌝ }
     {
-        self.trigger_type as u64
-            + 0x1_0000_0000 * (self.pages_counter as u64)
-            + 0x1_0000_0000_0000 * (self.stop_bit as u64)
-            + 0x100_0000_0000_0000 * (self.reserved0 as u64)
+        let second = join_u16(self.pages_counter, join_u8(self.stop_bit, self.reserved0));
+        join_u32(self.trigger_type, second)
     }
 }

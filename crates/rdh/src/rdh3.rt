@@ -5,6 +5,8 @@ ghost use Prim.Native.Nat.{_≤_};
 ghost use lib.ListN.{length};
 ghost use Rattle.basis.specs.Bytes.{bytesOf};
 ghost use Rattle.rdh.specs.Layout.{decoded};
+use crate::little_endian::join_u16;
+use crate::little_endian::join_u32;
 use crate::little_endian::read_u16;
 use crate::little_endian::read_u32;
 
@@ -31,8 +33,6 @@ impl Rdh3 {
     pub(crate) fn word(self) -> u64
         ensures { λ r. ⌜ bytesOf 8 r ≡ bytesOf 4 (self .«detector_field») ++ (bytesOf 2 (self .«par_bit») ++ (bytesOf 2 (self .reserved0))) ⌝ }
     {
-        self.detector_field as u64
-            + 0x1_0000_0000 * (self.par_bit as u64)
-            + 0x1_0000_0000_0000 * (self.reserved0 as u64)
+        join_u32(self.detector_field, join_u16(self.par_bit, self.reserved0))
     }
 }

@@ -6,9 +6,13 @@ ghost use Rattle.rdh.specs.Layout.{decode, encode, encodedInto, Equal};
 ghost use Rattle.rdh.specs.Refusals.{decodeAnswer, encodeAnswer};
 ghost use Rattle.rdh.specs.Words.{Words};
 ghost use Rattle.rdh.specs.Subfields.{cruIdOf, dataFormatOf, dwOf};
+use crate::little_endian::join_u8;
+use crate::little_endian::join_u16;
+use crate::little_endian::join_u32;
 use crate::little_endian::read_u16;
 use crate::little_endian::read_u64;
-use crate::little_endian::write_u64;
+use crate::little_endian::same_words;
+use crate::little_endian::write_words;
 use crate::rdh0::Rdh0;
 use crate::rdh1::Rdh1;
 use crate::rdh2::Rdh2;
@@ -79,12 +83,7 @@ impl RdhCru {
         if out.len() < RDH_CRU_SIZE_BYTES {
             return ToByteSlice::TooShort;
         }
-        let words = self.words();
-        let mut k = 0;
-        while k < 8 {
-            write_u64(out, 8 * k, words[k]);
-            k += 1;
-        }
+        write_words(out, self.words());
         ToByteSlice::Written
     }
 
@@ -92,16 +91,7 @@ impl RdhCru {
     pub fn eq(self, other: RdhCru) -> bool
         ensures { λ r. ⌜ Equal self other r ⌝ }
     {
-        let mine = self.words();
-        let theirs = other.words();
-        let mut k = 0;
-        while k < 8 {
-            if mine[k] != theirs[k] {
-                return false;
-            }
-            k += 1;
-        }
-        true
+        same_words(self.words(), other.words())
     }
 
     // The header as eight words of eight bytes.
@@ -149,9 +139,6 @@ impl RdhCru {
 fn packet_word(offset: u16, memory: u16, link: u8, packet: u8, cruid_dw: u16) -> u64
     ensures { λ r. ⌜ bytesOf 8 r ≡ bytesOf 2 offset ++ (bytesOf 2 memory ++ (bytesOf 1 link ++ (bytesOf 1 packet ++ bytesOf 2 «cruid_dw»))) ⌝ }
 {
-    offset as u64
-        + 0x1_0000 * (memory as u64)
-        + 0x1_0000_0000 * (link as u64)
-        + 0x100_0000_0000 * (packet as u64)
-        + 0x1_0000_0000_0000 * (cruid_dw as u64)
+    let second = join_u16(join_u8(link, packet), cruid_dw);
+    join_u32(join_u16(offset, memory), second)
 }

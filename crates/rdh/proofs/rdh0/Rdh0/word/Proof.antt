@@ -1,82 +1,41 @@
--- The number is joined from the fields in the order of their bytes.
-use mathlib.Core.List.{[], _∷_}
-use native.Mathlib.Omega.{arith}
+-- The bytes of what is joined are those of its parts.
+use mathlib.Core.List.{append-assoc}
 use borrow.Author.Needs.{needs}
-use Rattle.rdh.proofs.Joined.{bytesOf-joined}
 use Rattle.rdh.proofs.rdh0.Rdh0.word.Statement.{statement}
 use Rattle.rdh.proofs.rdh0.Rdh0.word.Tie as tie
 
-cast-result : tie.Need-cast-result
-cast-result c = search needs
+join-u8-requires : tie.Need-join-u8-requires
+join-u8-requires c κs = search needs
 
-cast-result-2 : tie.Need-cast-result-2
-cast-result-2 c = search needs
+join-u16-requires : tie.Need-join-u16-requires
+join-u16-requires c κs = search needs
 
-mul-result : tie.Need-mul-result
-mul-result c = search needs
+join-u8-requires-2 : tie.Need-join-u8-requires-2
+join-u8-requires-2 c κs = search needs
 
-add-result : tie.Need-add-result
-add-result c = search needs
+join-u16-requires-2 : tie.Need-join-u16-requires-2
+join-u16-requires-2 c κs = search needs
 
-cast-result-3 : tie.Need-cast-result-3
-cast-result-3 c = search needs
-
-mul-result-2 : tie.Need-mul-result-2
-mul-result-2 c = search needs
-
-add-result-2 : tie.Need-add-result-2
-add-result-2 c = search needs
-
-cast-result-4 : tie.Need-cast-result-4
-cast-result-4 c = search needs
-
-mul-result-3 : tie.Need-mul-result-3
-mul-result-3 c = search needs
-
-add-result-3 : tie.Need-add-result-3
-add-result-3 c = search needs
-
-cast-result-5 : tie.Need-cast-result-5
-cast-result-5 c = search needs
-
-mul-result-4 : tie.Need-mul-result-4
-mul-result-4 c = search needs
-
-add-result-4 : tie.Need-add-result-4
-add-result-4 c = search needs
-
-cast-result-6 : tie.Need-cast-result-6
-cast-result-6 c = search needs
-
-mul-result-5 : tie.Need-mul-result-5
-mul-result-5 c = search needs
-
-add-result-5 : tie.Need-add-result-5
-add-result-5 c = search needs
+join-u32-requires : tie.Need-join-u32-requires
+join-u32-requires c κs = search needs
 
 returns : tie.Need-returns
 returns c =
-    let w = c .before .before .before .before .before .before .args .self in
-    bytesOf-joined ((1, w .«header_id») ∷ (1, w .«header_size») ∷ (2, w .«fee_id» .0) ∷ (1, w .«priority_bit») ∷ (1, w .«system_id») ∷ (2, w .reserved0) ∷ []) _ (omega arith) (omega arith)
+    rw (
+      c .join-u32 .ensures .bytes,
+      c .before .join-u162 .ensures .bytes,
+      c .before .before .join-u82 .ensures .bytes,
+      c .before .before .before .join-u16 .ensures .bytes,
+      c .before .before .before .before .join-u8 .ensures .bytes,
+    ) (simp append-assoc)
 
 pub word-spec : {M : Type 1} → statement M
 word-spec =
     tie.close
     (tie.spec
-    cast-result
-    cast-result-2
-    mul-result
-    add-result
-    cast-result-3
-    mul-result-2
-    add-result-2
-    cast-result-4
-    mul-result-3
-    add-result-3
-    cast-result-5
-    mul-result-4
-    add-result-4
-    cast-result-6
-    mul-result-5
-    add-result-5
+    join-u8-requires
+    join-u16-requires
+    join-u8-requires-2
+    join-u16-requires-2
+    join-u32-requires
     returns)
