@@ -31,7 +31,7 @@ impl Rdh1 {
 
     // The word as one number, its first byte lowest.
     pub(crate) fn word(self) -> u64
-        ensures { λ r. ⌜ bytesOf 8 r ≡ bytesOf 4 (self .«bc_reserved0» .0) ++ (bytesOf 4 (self .orbit)) ⌝ }
+        ensures { λ r. ⌜ bytesOf 8 r ≡ bytesOf 4 (self .«bc_reserved0» .0) ++ bytesOf 4 (self .orbit) ⌝ }
     {
         join_u32(self.bc_reserved0.0, self.orbit)
     }

@@ -20,6 +20,9 @@ Inv-loop a b k₀ k = (k ≤ 8) × (take k a ≡ take k b)
 abbrev μ-loop : tie.MeasureT-loop
 μ-loop a b k₀ k = 8 - k
 
+eight : (c : tie.Start Inv-loop μ-loop) → (length (c .args .t1) ≡ 8) × (length (c .args .t2) ≡ 8)
+eight c = (search needs, search needs)
+
 loop-holds : tie.Need-loop-holds Inv-loop μ-loop
 loop-holds c = search needs
 
@@ -39,9 +42,8 @@ returns : tie.Need-returns Inv-loop μ-loop
 returns c =
     let a = c .before .before .before .args .t1 in
     let b = c .before .before .before .args .t2 in
+    let long = eight (c .before .before .before) in
     let k = c .before .before .loop .k in
-    let long : length a ≡ 8 = search needs in
-    let long-too : length b ≡ 8 = search needs in
     let fit : (j : ℕ) → Fits w64 (getD a j 0) = λ j. search needs in
     let fit-too : (j : ℕ) → Fits w64 (getD b j 0) = λ j. search needs in (
       λ t. absurd (false≢true t),
@@ -60,18 +62,16 @@ loop-again : tie.Need-loop-again Inv-loop μ-loop
 loop-again c =
     let a = c .before .before .before .args .t1 in
     let b = c .before .before .before .args .t2 in
+    let long = eight (c .before .before .before) in
     let at = c .before .before .loop in
-    let long : length a ≡ 8 = search needs in
-    let long-too : length b ≡ 8 = search needs in
     (omega arith, take-more a b (at .k) (omega arith) (omega arith) (at .inv .1) (c .if1 .left))
 
 returns-2 : tie.Need-returns-2 Inv-loop μ-loop
 returns-2 c =
     let a = c .before .before .args .t1 in
     let b = c .before .before .args .t2 in
+    let long = eight (c .before .before) in
     let at = c .before .loop in
-    let long : length a ≡ 8 = search needs in
-    let long-too : length b ≡ 8 = search needs in
     let same = sym (take-all (at .k) a (omega arith)) ∙ at .inv .1 ∙ take-all (at .k) b (omega arith) in
     (λ t. ap wordBytes same, λ e. refl)
 

@@ -1,5 +1,4 @@
 -- The bytes of what is joined are those of its parts.
-use mathlib.Core.List.{append-assoc}
 use borrow.Author.Needs.{needs}
 use Rattle.rdh.proofs.rdh_cru.packet_word.Statement.{statement}
 use Rattle.rdh.proofs.rdh_cru.packet_word.Tie as tie
@@ -18,7 +17,7 @@ join-u32-requires c κs = search needs
 
 returns : tie.Need-returns
 returns c =
-    rw (c .join-u32 .ensures .bytes, c .before .join-u162 .ensures .bytes, c .before .before .join-u16 .ensures .bytes, c .before .before .before .join-u8 .ensures .bytes) (simp append-assoc)
+    rw (c .join-u32 .ensures .bytes, c .before .join-u162 .ensures .bytes, c .before .before .join-u16 .ensures .bytes, c .before .before .before .join-u8 .ensures .bytes)
 
 pub packet-word-spec : {M : Type 1} → statement M
 packet-word-spec =

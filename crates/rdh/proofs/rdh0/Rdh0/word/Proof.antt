@@ -1,5 +1,4 @@
 -- The bytes of what is joined are those of its parts.
-use mathlib.Core.List.{append-assoc}
 use borrow.Author.Needs.{needs}
 use Rattle.rdh.proofs.rdh0.Rdh0.word.Statement.{statement}
 use Rattle.rdh.proofs.rdh0.Rdh0.word.Tie as tie
@@ -27,7 +26,7 @@ returns c =
       c .before .before .join-u82 .ensures .bytes,
       c .before .before .before .join-u16 .ensures .bytes,
       c .before .before .before .before .join-u8 .ensures .bytes,
-    ) (simp append-assoc)
+    )
 
 pub word-spec : {M : Type 1} → statement M
 word-spec =
