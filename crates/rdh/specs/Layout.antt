@@ -12,7 +12,7 @@ use Rattle.basis.specs.Pick.{pick}
 use Rattle.basis.specs.Refusals.{Answer, gives, refuses}
 use Rattle.rdh.specs.declared.rdh_cru.RdhCru.{RdhCru}
 
--- The fields of a header, first byte first.
+-- The fields of a header, first byte first, a line for each word of eight bytes.
 pub data Field : Type 0 where
   header-id header-size fee-id priority-bit system-id rdh0-reserved0 : Field
   offset-new-packet memory-size link-id packet-counter cruid-dw : Field
@@ -25,30 +25,14 @@ pub data Field : Type 0 where
 
 abbrev pub fields : List Field
 fields =
-    header-id
-    ∷ header-size
-    ∷ fee-id
-    ∷ priority-bit
-    ∷ system-id
-    ∷ rdh0-reserved0
-    ∷ offset-new-packet
-    ∷ memory-size
-    ∷ link-id
-    ∷ packet-counter
-    ∷ cruid-dw
-    ∷ bc-reserved0
-    ∷ orbit
+    header-id ∷ header-size ∷ fee-id ∷ priority-bit ∷ system-id ∷ rdh0-reserved0
+    ∷ offset-new-packet ∷ memory-size ∷ link-id ∷ packet-counter ∷ cruid-dw
+    ∷ bc-reserved0 ∷ orbit
     ∷ dataformat-reserved0
-    ∷ trigger-type
-    ∷ pages-counter
-    ∷ stop-bit
-    ∷ rdh2-reserved0
+    ∷ trigger-type ∷ pages-counter ∷ stop-bit ∷ rdh2-reserved0
     ∷ reserved1
-    ∷ detector-field
-    ∷ par-bit
-    ∷ rdh3-reserved0
-    ∷ reserved2
-    ∷ []
+    ∷ detector-field ∷ par-bit ∷ rdh3-reserved0
+    ∷ reserved2 ∷ []
 
 -- The bytes of a field: the first one, and how many there are.
 pub record Span : Type 0 where
@@ -152,7 +136,7 @@ header n =
 abbrev pub number : List ℕ → Field → ℕ
 number s f = numberAt s (span f .offset) (span f .width)
 
--- The header that bytes hold: "Decoding uses the first 64 bytes of what is lent".
+-- The header that bytes hold. "Decoding uses the first 64 bytes of what is lent": no field reaches further.
 unfoldable pub decoded : List ℕ → RdhCru
 decoded s = header (number s)
 
@@ -161,11 +145,11 @@ unfoldable pub bytesIn : List Field → RdhCru → List ℕ
 bytesIn [] h = []
 bytesIn (f ∷ fs) h = bytesOf (span f .width) (value f h) ++ bytesIn fs h
 
--- The bytes of a header.
+-- The bytes of a header: those of its fields in the table's order.
 abbrev pub encoded : RdhCru → List ℕ
 encoded h = bytesIn fields h
 
--- Every number of the header is one that its field's bytes can hold, as in each header of the code.
+-- Every number of the header is one that its field's bytes can hold, as is so of each header in the code.
 abbrev pub Fits : RdhCru → Type 0
 Fits h = (f : Field) → value f h < 256 ^ span f .width
 
@@ -173,7 +157,7 @@ Fits h = (f : Field) → value f h < 256 ^ span f .width
 unfoldable pub decode : List ℕ → Answer RdhCru
 decode s = pick (ltb (length s) 64) (refuses 9 []) (gives (decoded s))
 
--- What encoding answers for a lent buffer l: the same refusal, or that the header is written.
+-- What encoding answers for a lent buffer l: the same refusal, or that the header was written.
 unfoldable pub encode : List ℕ → Answer Unit
 encode l = pick (ltb (length l) 64) (refuses 9 []) (gives tt)
 

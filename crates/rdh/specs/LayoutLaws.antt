@@ -4,12 +4,12 @@ use mathlib.Core.Path.{_≡_, refl, sym, ap, subst, _∙_}
 use mathlib.Core.Bool.{Bool, true, false}
 use mathlib.Core.Logic.{_↔_}
 use mathlib.Core.List.{List, [], _∷_, _++_, append-assoc, append-nil}
-use Prim.Native.Nat.{ℕ, _+_, _≤_, _<_, _^_}
+use Prim.Native.Nat.{ℕ, _+_, _≤_}
 use native.Mathlib.Omega.{arith}
 use lib.Dec.{eqb}
 use lib.ListN.{length, take, drop, length-append}
-use lib.Seq.{take-add, take-at, drop-at}
-use Rattle.basis.specs.Bytes.{Bytes, bytesOf, little, numberAt}
+use lib.Seq.{take-add}
+use Rattle.basis.specs.Bytes.{Bytes, bytesOf, numberAt}
 use Rattle.basis.specs.BytesLaws.{length-bytesOf, bytesOf-numberAt, numberAt-bytesOf, numberAt-take}
 use Rattle.basis.specs.Pick.{pick}
 use Rattle.rdh.specs.declared.rdh_cru.RdhCru.{RdhCru}
@@ -24,7 +24,7 @@ pub tiled : Tiles 0 fields 64
 unfolding span
 tiled = omega arith
 
--- ---- from the list of fields to every field
+-- ---- from the list of fields to every field: the list has them all
 
 abbrev pub Each : (Field → Type 0) → List Field → Type 0
 Each P [] = Unit
@@ -113,7 +113,7 @@ within (f ∷ fs) first end t =
 
 -- ---- decoding
 
--- only the first 64 bytes count
+-- "Decoding uses the first 64 bytes of what is lent": bytes behind them change nothing
 pub decoded-take : (s : List ℕ) → decoded (take 64 s) ≡ decoded s
 decoded-take s =
     same-fields _ _
@@ -141,7 +141,7 @@ module _ (h : RdhCru) (fits : Fits h) (rest : List ℕ) where
             (numbers-back fs (first + width) end (t .1) (p ++ own) (omega (arith, length-append p own, length-bytesOf width (value f h)))),
       )
 
-  -- encode, then decode: the same header, whatever bytes follow
+  -- "encode then decode the same header", whatever bytes follow
   pub decoded-encoded : decoded (encoded h ++ rest) ≡ h
   decoded-encoded =
       same-fields _ _
@@ -167,7 +167,7 @@ module _ (s : List ℕ) (bytes : Bytes s) where
       ∙ ap (λ (l : List ℕ). l ++ bytesIn fs (decoded s)) (sym (take-add first width s))
       ∙ bytes-back fs next end (t .1) fit
 
-  -- decode, then encode: the same 64 bytes
+  -- "Decode then encode gives the same 64 bytes"
   pub encoded-decoded : 64 ≤ length s → encoded (decoded s) ≡ take 64 s
   encoded-decoded long = bytes-back fields 0 64 tiled long
 

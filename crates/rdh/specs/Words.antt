@@ -16,7 +16,7 @@ unfoldable pub wordBytes : List ℕ → List ℕ
 wordBytes [] = []
 wordBytes (w ∷ ws) = bytesOf 8 w ++ wordBytes ws
 
--- The words hold the header's bytes, and each field of it is a number that its bytes can hold.
+-- The words hold the header's bytes; and the header is one whose numbers fit them.
 pub record Words (h : RdhCru) (ws : List ℕ) : Type 0 where
   pub bytes : wordBytes ws ≡ encoded h
   pub fits : Fits h

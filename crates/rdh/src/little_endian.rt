@@ -1,4 +1,4 @@
-// Numbers of several bytes, lowest byte first. Each caller knows that the bytes are there.
+// Numbers of several bytes, lowest byte first, and the eight words of a header. Who reads or writes has tested the length.
 ghost use mathlib.Core.Bool.{true};
 ghost use mathlib.Core.Logic.{_↔_};
 ghost use mathlib.Core.Path.{_≡_};
@@ -8,6 +8,7 @@ ghost use lib.Seq.{sets};
 ghost use Rattle.basis.specs.Bytes.{bytesOf, numberAt};
 ghost use Rattle.rdh.specs.Words.{Joined, wordBytes};
 
+// A number from its low and its high half.
 pub(crate) fn join_u8(low: u8, high: u8) -> u16
     ensures { λ r. ⌜ Joined 1 low high r ⌝ }
 {
@@ -26,6 +27,7 @@ pub(crate) fn join_u32(low: u32, high: u32) -> u64
     low as u64 + 0x1_0000_0000 * (high as u64)
 }
 
+// The number at byte `i`.
 pub(crate) fn read_u16(buf: &[u8], i: usize) -> u16
     requires { ⌜ i + 2 ≤ length (now buf) ⌝ }
     ensures { λ r. ⌜ r ≡ numberAt (now (buf .entry)) i 2 ⌝ }
@@ -60,6 +62,7 @@ pub(crate) fn write_u64(out: &mut [u8], i: usize, n: u64)
     }
 }
 
+// The words in a row, from the first byte on.
 pub(crate) fn write_words(out: &mut [u8], words: [u64; 8])
     requires { ⌜ 64 ≤ length (now out) ⌝ }
     ensures { λ _. ⌜ now (out .exit) ≡ sets (now (out .entry)) 0 (wordBytes words) ⌝ }

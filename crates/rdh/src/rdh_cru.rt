@@ -18,6 +18,7 @@ use crate::rdh1::Rdh1;
 use crate::rdh2::Rdh2;
 use crate::rdh3::Rdh3;
 
+// The length of a header.
 pub const RDH_CRU_SIZE_BYTES: usize = 64;
 
 // The number of the common readout unit, 12 bits, and of its data wrapper (dw), 4 bits above it.
@@ -41,18 +42,20 @@ pub struct RdhCru {
     pub reserved2: u64,
 }
 
+// What `from_buf` answers.
 pub enum FromBuf {
     Rdh(RdhCru),
     TooShort,
 }
 
+// What `to_byte_slice` answers.
 pub enum ToByteSlice {
     Written,
     TooShort,
 }
 
 impl RdhCru {
-    // The header in the first 64 bytes of `buf`.
+    // The header in the first 64 bytes of `buf`; what follows them is not read.
     pub fn from_buf(buf: &[u8]) -> FromBuf
         ensures { λ r. ⌜ decodeAnswer r ≡ decode (now (buf .entry)) ⌝ }
     {
@@ -75,7 +78,7 @@ impl RdhCru {
         })
     }
 
-    // Writes the header to the first 64 bytes of `out`, and nothing where there are fewer.
+    // Writes the header to the first 64 bytes of `out`, or nothing where there are fewer.
     pub fn to_byte_slice(self, out: &mut [u8]) -> ToByteSlice
         ensures answer { λ r. ⌜ encodeAnswer r ≡ encode (now (out .entry)) ⌝ }
         ensures left { λ _. ⌜ now (out .exit) ≡ encodedInto self (now (out .entry)) ⌝ }
@@ -94,7 +97,7 @@ impl RdhCru {
         same_words(self.words(), other.words())
     }
 
-    // The header as eight words of eight bytes.
+    // The header as eight words of eight bytes, each as one number.
     fn words(self) -> [u64; 8]
         ensures { λ r. ⌜ Words self r ⌝ }
     {
