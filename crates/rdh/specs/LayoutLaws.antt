@@ -114,12 +114,13 @@ within (f ∷ fs) first end t =
 -- ---- decoding
 
 -- "Decoding uses the first 64 bytes of what is lent": bytes behind them change nothing
-pub decoded-take : (s : List ℕ) → decoded (take 64 s) ≡ decoded s
-decoded-take s =
+pub decoded-take : (n : ℕ) (s : List ℕ) → 64 ≤ n → decoded (take n s) ≡ decoded s
+decoded-take n s enough =
     same-fields _ _
     (λ f.
-    value-decoded (take 64 s) f
-    ∙ numberAt-take s 64 (span f .offset) (span f .width) (every (λ g. span g .offset + span g .width ≤ 64) (within fields 0 64 tiled) f)
+    let inside = every (λ g. span g .offset + span g .width ≤ 64) (within fields 0 64 tiled) f in
+    value-decoded (take n s) f
+    ∙ numberAt-take s n (span f .offset) (span f .width) (omega arith)
     ∙ sym (value-decoded s f))
 
 module _ (h : RdhCru) (fits : Fits h) (rest : List ℕ) where

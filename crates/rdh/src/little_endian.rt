@@ -54,11 +54,11 @@ pub(crate) fn write_u64(out: &mut [u8], i: usize, n: u64)
     ensures { λ _. ⌜ now (out .exit) ≡ sets (now (out .entry)) i (bytesOf 8 n) ⌝ }
 {
     let mut rest = n;
-    let mut k = 0;
-    while k < 8 {
-        out[i + k] = (rest % 256) as u8;
+    let mut b = 0;
+    while b < 8 {
+        out[i + b] = (rest % 256) as u8;
         rest = rest / 256;
-        k += 1;
+        b += 1;
     }
 }
 
@@ -67,10 +67,10 @@ pub(crate) fn write_words(out: &mut [u8], words: [u64; 8])
     requires { ⌜ 64 ≤ length (now out) ⌝ }
     ensures { λ _. ⌜ now (out .exit) ≡ sets (now (out .entry)) 0 (wordBytes words) ⌝ }
 {
-    let mut k = 0;
-    while k < 8 {
-        write_u64(out, 8 * k, words[k]);
-        k += 1;
+    let mut w = 0;
+    while w < 8 {
+        write_u64(out, 8 * w, words[w]);
+        w += 1;
     }
 }
 

@@ -12,11 +12,11 @@ use Rattle.rdh.proofs.little_endian.write_u64.Statement.{statement}
 use Rattle.rdh.proofs.little_endian.write_u64.Tie as tie
 
 abbrev Inv-loop : tie.InvT-loop
-Inv-loop out₀ i n rest₀ k₀ out rest k =
-    (k ≤ 8) × (length out ≡ length out₀) × (sets out (i + k) (bytesOf (8 - k) rest) ≡ sets out₀ i (bytesOf 8 n))
+Inv-loop out₀ i n rest₀ b₀ out rest b =
+    (b ≤ 8) × (length out ≡ length out₀) × (sets out (i + b) (bytesOf (8 - b) rest) ≡ sets out₀ i (bytesOf 8 n))
 
 abbrev μ-loop : tie.MeasureT-loop
-μ-loop out₀ i n rest₀ k₀ out rest k = 8 - k
+μ-loop out₀ i n rest₀ b₀ out rest b = 8 - b
 
 loop-holds : tie.Need-loop-holds Inv-loop μ-loop
 loop-holds c = (omega arith, omega arith, rw add-zero)
@@ -30,8 +30,8 @@ add-out c = search needs
 slice-write-out : tie.Need-slice-write-out Inv-loop μ-loop
 slice-write-out c = omega arith
 
-add-k : tie.Need-add-k Inv-loop μ-loop
-add-k c = search needs
+add-b : tie.Need-add-b Inv-loop μ-loop
+add-b c = search needs
 
 loop-less : tie.Need-loop-less Inv-loop μ-loop
 loop-less c = search needs
@@ -40,7 +40,7 @@ loop-again : tie.Need-loop-again Inv-loop μ-loop
 loop-again c =
     let at = c .before .loop in
     let start = c .before .before .args in
-    (omega arith, simp length-set (omega arith), sets-next (at .out) (start .i) (at .k) 8 (at .rest) (omega arith) ∙ at .inv .2)
+    (omega arith, simp length-set (omega arith), sets-next (at .out) (start .i) (at .b) 8 (at .rest) (omega arith) ∙ at .inv .2)
 
 same-length : tie.Need-same-length Inv-loop μ-loop
 same-length c = c .before .loop .inv .1
@@ -48,7 +48,7 @@ same-length c = c .before .loop .inv .1
 returns : tie.Need-returns Inv-loop μ-loop
 unfolding bytesOf
 returns c =
-    let none : 8 - c .before .loop .k ≡ 0 = omega arith in
+    let none : 8 - c .before .loop .b ≡ 0 = omega arith in
     rw none at (c .before .loop .inv .2)
 
 pub write-u64-spec : {M : Type 1} → statement M
@@ -61,7 +61,7 @@ write-u64-spec =
     cast-out
     add-out
     slice-write-out
-    add-k
+    add-b
     loop-less
     loop-again
     same-length

@@ -12,11 +12,11 @@ use Rattle.rdh.proofs.little_endian.write_words.Statement.{statement}
 use Rattle.rdh.proofs.little_endian.write_words.Tie as tie
 
 abbrev Inv-loop : tie.InvT-loop
-Inv-loop out₀ words k₀ out k =
-    (k ≤ 8) × (length out ≡ length out₀) × (sets out (8 * k) (wordBytes (drop k words)) ≡ sets out₀ 0 (wordBytes words))
+Inv-loop out₀ words w₀ out w =
+    (w ≤ 8) × (length out ≡ length out₀) × (sets out (8 * w) (wordBytes (drop w words)) ≡ sets out₀ 0 (wordBytes words))
 
 abbrev μ-loop : tie.MeasureT-loop
-μ-loop out₀ words k₀ out k = 8 - k
+μ-loop out₀ words w₀ out w = 8 - w
 
 loop-holds : tie.Need-loop-holds Inv-loop μ-loop
 loop-holds c = search needs
@@ -33,8 +33,8 @@ array-read-write-u64 c = search needs
 write-u64-requires : tie.Need-write-u64-requires Inv-loop μ-loop
 write-u64-requires c κs = search needs
 
-add-k : tie.Need-add-k Inv-loop μ-loop
-add-k c = search needs
+add-w : tie.Need-add-w Inv-loop μ-loop
+add-w c = search needs
 
 loop-less : tie.Need-loop-less Inv-loop μ-loop
 loop-less c = search needs
@@ -44,7 +44,7 @@ loop-again c =
     let at = c .before .before .before .before .before .loop in
     let words = c .before .before .before .before .before .before .before .args .t2 in
     let eight : length words ≡ 8 = search needs in
-    (omega arith, omega arith, rw (c .before .before .write-u64 .ensures) (sets-word (at .out) words (at .k) (omega arith) ∙ at .inv .2))
+    (omega arith, omega arith, rw (c .before .before .write-u64 .ensures) (sets-word (at .out) words (at .w) (omega arith) ∙ at .inv .2))
 
 same-length : tie.Need-same-length Inv-loop μ-loop
 same-length c = search needs
@@ -55,7 +55,7 @@ returns c =
     let at = c .before .loop in
     let words = c .before .before .before .args .t2 in
     let eight : length words ≡ 8 = search needs in
-    let none : drop (at .k) words ≡ [] = drop-of-length-le words {i = at .k} (omega arith) in
+    let none : drop (at .w) words ≡ [] = drop-of-length-le words {i = at .w} (omega arith) in
     rw none at (at .inv .2)
 
 pub write-words-spec : {M : Type 1} → statement M
@@ -69,7 +69,7 @@ write-words-spec =
     mul-write-u64-2
     array-read-write-u64
     write-u64-requires
-    add-k
+    add-w
     loop-less
     loop-again
     same-length
