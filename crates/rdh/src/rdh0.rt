@@ -63,7 +63,9 @@ impl Rdh0 {
 
     // The word as one number, its first byte lowest.
     pub(crate) fn word(self) -> u64
-        ensures { λ r. ⌜ bytesOf 8 r ≡ bytesOf 1 (self .«header_id») ++ bytesOf 1 (self .«header_size») ++ bytesOf 2 (self .«fee_id» .0) ++ (bytesOf 1 (self .«priority_bit») ++ bytesOf 1 (self .«system_id») ++ bytesOf 2 (self .reserved0)) ⌝ }
+        ensures { λ r. ⌜ bytesOf 8 r
+            ≡ bytesOf 1 (self .«header_id») ++ bytesOf 1 (self .«header_size») ++ bytesOf 2 (self .«fee_id» .0)
+            ++ (bytesOf 1 (self .«priority_bit») ++ bytesOf 1 (self .«system_id») ++ bytesOf 2 (self .reserved0)) ⌝ }
     {
         let first = join_u16(join_u8(self.header_id, self.header_size), self.fee_id.0);
         let second = join_u16(join_u8(self.priority_bit, self.system_id), self.reserved0);

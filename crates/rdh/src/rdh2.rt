@@ -34,7 +34,9 @@ impl Rdh2 {
 
     // The word as one number, its first byte lowest.
     pub(crate) fn word(self) -> u64
-        ensures { λ r. ⌜ bytesOf 8 r ≡ bytesOf 4 (self .«trigger_type») ++ (bytesOf 2 (self .«pages_counter») ++ (bytesOf 1 (self .«stop_bit») ++ bytesOf 1 (self .reserved0))) ⌝ }
+        ensures { λ r. ⌜ bytesOf 8 r
+            ≡ bytesOf 4 (self .«trigger_type»)
+            ++ (bytesOf 2 (self .«pages_counter») ++ (bytesOf 1 (self .«stop_bit») ++ bytesOf 1 (self .reserved0))) ⌝ }
     {
         let second = join_u16(self.pages_counter, join_u8(self.stop_bit, self.reserved0));
         join_u32(self.trigger_type, second)

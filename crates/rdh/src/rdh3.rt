@@ -31,7 +31,8 @@ impl Rdh3 {
 
     // The word as one number, its first byte lowest.
     pub(crate) fn word(self) -> u64
-        ensures { λ r. ⌜ bytesOf 8 r ≡ bytesOf 4 (self .«detector_field») ++ (bytesOf 2 (self .«par_bit») ++ bytesOf 2 (self .reserved0)) ⌝ }
+        ensures { λ r. ⌜ bytesOf 8 r
+            ≡ bytesOf 4 (self .«detector_field») ++ (bytesOf 2 (self .«par_bit») ++ bytesOf 2 (self .reserved0)) ⌝ }
     {
         join_u32(self.detector_field, join_u16(self.par_bit, self.reserved0))
     }

@@ -140,7 +140,9 @@ impl RdhCru {
 
 // The second word, which has no struct of its own, as one number, its first byte lowest.
 fn packet_word(offset: u16, memory: u16, link: u8, packet: u8, cruid_dw: u16) -> u64
-    ensures { λ r. ⌜ bytesOf 8 r ≡ bytesOf 2 offset ++ bytesOf 2 memory ++ (bytesOf 1 link ++ bytesOf 1 packet ++ bytesOf 2 «cruid_dw») ⌝ }
+    ensures { λ r. ⌜ bytesOf 8 r
+        ≡ bytesOf 2 offset ++ bytesOf 2 memory
+        ++ (bytesOf 1 link ++ bytesOf 1 packet ++ bytesOf 2 «cruid_dw») ⌝ }
 {
     let second = join_u16(join_u8(link, packet), cruid_dw);
     join_u32(join_u16(offset, memory), second)
