@@ -1,5 +1,7 @@
 -- Below 64 bytes the test refuses before anything is written; from there on the words are the header in front of the old bytes.
 use mathlib.Core.Path.{ap, _∙_}
+use Prim.Native.Nat.{_≤_}
+use native.Mathlib.Omega.{arith}
 use borrow.Author.Needs.{needs}
 use borrow.Author.Tests.{lt-ltb, le-ltb}
 use lib.ListN.{length}
@@ -13,7 +15,7 @@ use Rattle.rdh.proofs.rdh_cru.RdhCru.to_byte_slice.Tie as tie
 returns : tie.Need-returns
 unfolding encode encodedInto
 returns c =
-    let short = lt-ltb (length (c .before .before .args .out .now)) 64 (c .if1 .taken) in
+    let short = lt-ltb (length (c .before .before .args .out .now)) 64 (omega arith) in
     (rw short, rw short)
 
 words-requires : tie.Need-words-requires
@@ -30,7 +32,7 @@ unfolding encode encodedInto
 returns-2 c =
     let start = c .before .before .before .before .before .before .before .args in
     let l = start .out .now in
-    let long = c .before .before .before .before .before .if1 .left in
+    let long : 64 ≤ length l = omega (arith, c .before .before .before .before .before .if1 .left) in
     let test = le-ltb (length l) 64 long in (
       rw test,
       rw test
