@@ -2,7 +2,7 @@
 use mathlib.Core.Path.{_≡_, refl, sym, ap, ap₂, _∙_}
 use mathlib.Core.List.{List, [], _∷_, _++_}
 use Prim.Native.Nat.{ℕ, zero, suc, _+_, _*_, _/_, _%_, _^_, _≤_, _<_}
-use native.Mathlib.Nat.{pow-succ', suc-add, mul-assoc, mod-add-div, mod-lt, one-le-pow}
+use native.Mathlib.Nat.{pow-succ', suc-add, mul-assoc}
 use native.Mathlib.Omega.{arith}
 use lib.ListN.{length, take, drop, getD, length-drop}
 use lib.Seq.{take-add, take-at, drop-at, take-take, drop-drop, drop-cons, getD-take, getD-drop, length-take-le}
@@ -47,11 +47,6 @@ bytesOf-join (suc v) w low high h =
     ap (λ (n : ℕ). bytesOf n (low + 256 ^ suc v * high)) (suc-add v w)
     ∙ ap₂ (λ (b : ℕ) (n : ℕ). b ∷ bytesOf (v + w) n) first rest
     ∙ ap (λ (t : List ℕ). low % 256 ∷ t) (bytesOf-join v w (low / 256) high (omega (arith, pow-succ' 256 v)))
-
-pub bytesOf-split : (v w n : ℕ) → bytesOf (v + w) n ≡ bytesOf v (n % 256 ^ v) ++ bytesOf w (n / 256 ^ v)
-bytesOf-split v w n =
-    ap (bytesOf (v + w)) (sym (mod-add-div n (256 ^ v)))
-    ∙ bytesOf-join v w (n % 256 ^ v) (n / 256 ^ v) (mod-lt n (one-le-pow v 256 (omega arith)))
 
 -- bytes in a row spell the number of the first ones and, above it, that of the others
 pub little-append : (s t : List ℕ) → little (s ++ t) ≡ little s + 256 ^ length s * little t

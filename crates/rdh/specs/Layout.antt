@@ -1,6 +1,8 @@
 -- The 64 bytes of a header as a table, and what follows from the table: the header that bytes hold, the bytes that a header is, and
 -- what decoding and encoding answer (document 01, "The 64 bytes").
 use mathlib.Core.Path.{_≡_}
+use mathlib.Core.Bool.{Bool, true}
+use mathlib.Core.Logic.{_↔_}
 use mathlib.Core.List.{List, [], _∷_, _++_}
 use Prim.Native.Nat.{ℕ, _+_, _<_, _^_}
 use lib.Dec.{ltb}
@@ -10,7 +12,7 @@ use Rattle.basis.specs.Pick.{pick}
 use Rattle.basis.specs.Refusals.{Answer, gives, refuses}
 use Rattle.rdh.specs.declared.rdh_cru.RdhCru.{RdhCru}
 
--- The fields of a header, first byte first.
+-- The fields of a header, first byte first, a line for each word of eight bytes.
 pub data Field : Type 0 where
   header-id header-size fee-id priority-bit system-id rdh0-reserved0 : Field
   offset-new-packet memory-size link-id packet-counter cruid-dw : Field
@@ -23,30 +25,14 @@ pub data Field : Type 0 where
 
 abbrev pub fields : List Field
 fields =
-    header-id
-    ∷ header-size
-    ∷ fee-id
-    ∷ priority-bit
-    ∷ system-id
-    ∷ rdh0-reserved0
-    ∷ offset-new-packet
-    ∷ memory-size
-    ∷ link-id
-    ∷ packet-counter
-    ∷ cruid-dw
-    ∷ bc-reserved0
-    ∷ orbit
+    header-id ∷ header-size ∷ fee-id ∷ priority-bit ∷ system-id ∷ rdh0-reserved0
+    ∷ offset-new-packet ∷ memory-size ∷ link-id ∷ packet-counter ∷ cruid-dw
+    ∷ bc-reserved0 ∷ orbit
     ∷ dataformat-reserved0
-    ∷ trigger-type
-    ∷ pages-counter
-    ∷ stop-bit
-    ∷ rdh2-reserved0
+    ∷ trigger-type ∷ pages-counter ∷ stop-bit ∷ rdh2-reserved0
     ∷ reserved1
-    ∷ detector-field
-    ∷ par-bit
-    ∷ rdh3-reserved0
-    ∷ reserved2
-    ∷ []
+    ∷ detector-field ∷ par-bit ∷ rdh3-reserved0
+    ∷ reserved2 ∷ []
 
 -- The bytes of a field: the first one, and how many there are.
 pub record Span : Type 0 where
@@ -150,7 +136,7 @@ header n =
 abbrev pub number : List ℕ → Field → ℕ
 number s f = numberAt s (span f .offset) (span f .width)
 
--- The header that bytes hold: "Decoding uses the first 64 bytes of what is lent".
+-- The header that bytes hold. "Decoding uses the first 64 bytes of what is lent": no field reaches further.
 unfoldable pub decoded : List ℕ → RdhCru
 decoded s = header (number s)
 
@@ -159,11 +145,11 @@ unfoldable pub bytesIn : List Field → RdhCru → List ℕ
 bytesIn [] h = []
 bytesIn (f ∷ fs) h = bytesOf (span f .width) (value f h) ++ bytesIn fs h
 
--- The bytes of a header.
+-- The bytes of a header: those of its fields in the table's order.
 abbrev pub encoded : RdhCru → List ℕ
 encoded h = bytesIn fields h
 
--- Every number of the header is one that its field's bytes can hold, as in each header of the code.
+-- Every number of the header is one that its field's bytes can hold, as is so of each header in the code.
 abbrev pub Fits : RdhCru → Type 0
 Fits h = (f : Field) → value f h < 256 ^ span f .width
 
@@ -171,10 +157,15 @@ Fits h = (f : Field) → value f h < 256 ^ span f .width
 unfoldable pub decode : List ℕ → Answer RdhCru
 decode s = pick (ltb (length s) 64) (refuses 9 []) (gives (decoded s))
 
--- What encoding answers for a lent buffer l: the same refusal, or that the header is written.
+-- What encoding answers for a lent buffer l: the same refusal, or that the header was written.
 unfoldable pub encode : List ℕ → Answer Unit
 encode l = pick (ltb (length l) 64) (refuses 9 []) (gives tt)
 
 -- What the buffer then holds: "encoding writes the first 64 and no more", and with the refusal "nothing written".
 unfoldable pub encodedInto : RdhCru → List ℕ → List ℕ
 encodedInto h l = pick (ltb (length l) 64) l (encoded h ++ drop 64 l)
+
+-- What equality answers: true exactly when the two headers have the same bytes, which is exactly when they are the same header.
+pub record Equal (a b : RdhCru) (answer : Bool) : Type 0 where
+  pub by-bytes : (answer ≡ true) ↔ (encoded a ≡ encoded b)
+  pub as-headers : (answer ≡ true) ↔ (a ≡ b)

@@ -4,12 +4,12 @@ use mathlib.Core.Path.{_≡_, refl, sym, ap, subst, _∙_}
 use mathlib.Core.Bool.{Bool, true, false}
 use mathlib.Core.Logic.{_↔_}
 use mathlib.Core.List.{List, [], _∷_, _++_, append-assoc, append-nil}
-use Prim.Native.Nat.{ℕ, _+_, _≤_, _<_, _^_}
+use Prim.Native.Nat.{ℕ, _+_, _≤_}
 use native.Mathlib.Omega.{arith}
 use lib.Dec.{eqb}
 use lib.ListN.{length, take, drop, length-append}
-use lib.Seq.{take-add, take-at, drop-at}
-use Rattle.basis.specs.Bytes.{Bytes, bytesOf, little, numberAt}
+use lib.Seq.{take-add}
+use Rattle.basis.specs.Bytes.{Bytes, bytesOf, numberAt}
 use Rattle.basis.specs.BytesLaws.{length-bytesOf, bytesOf-numberAt, numberAt-bytesOf, numberAt-take}
 use Rattle.basis.specs.Pick.{pick}
 use Rattle.rdh.specs.declared.rdh_cru.RdhCru.{RdhCru}
@@ -24,9 +24,9 @@ pub tiled : Tiles 0 fields 64
 unfolding span
 tiled = omega arith
 
--- ---- from the list of fields to every field
+-- ---- from the list of fields to every field: the list has them all
 
-Each : (Field → Type 0) → List Field → Type 0
+abbrev pub Each : (Field → Type 0) → List Field → Type 0
 Each P [] = Unit
 Each P (f ∷ fs) = P f × Each P fs
 
@@ -62,7 +62,7 @@ listed rdh3-reserved0 = refl
 listed reserved2 = refl
 
 of-each : (P : Field → Type 0) (f : Field) (fs : List Field) → Listed f fs → Each P fs → P f
-unfolding Each Listed
+unfolding Listed
 of-each P f [] l e = absurd l
 of-each P f (g ∷ fs) l e = go (eqb (span f .offset) (span g .offset)) l (λ later. of-each P f fs later (e .1))
   where
@@ -70,36 +70,14 @@ of-each P f (g ∷ fs) l e = go (eqb (span f .offset) (span g .offset)) l (λ la
     go true same next = subst P (sym same) (e .0)
     go false later next = next later
 
-every : (P : Field → Type 0) → Each P fields → (f : Field) → P f
+pub every : (P : Field → Type 0) → Each P fields → (f : Field) → P f
 every P e f = of-each P f fields (listed f) e
 
 -- ---- the fields of a header
 
 value-header : (n : Field → ℕ) (f : Field) → value f (header n) ≡ n f
 unfolding value header
-value-header n header-id = refl
-value-header n header-size = refl
-value-header n fee-id = refl
-value-header n priority-bit = refl
-value-header n system-id = refl
-value-header n rdh0-reserved0 = refl
-value-header n offset-new-packet = refl
-value-header n memory-size = refl
-value-header n link-id = refl
-value-header n packet-counter = refl
-value-header n cruid-dw = refl
-value-header n bc-reserved0 = refl
-value-header n orbit = refl
-value-header n dataformat-reserved0 = refl
-value-header n trigger-type = refl
-value-header n pages-counter = refl
-value-header n stop-bit = refl
-value-header n rdh2-reserved0 = refl
-value-header n reserved1 = refl
-value-header n detector-field = refl
-value-header n par-bit = refl
-value-header n rdh3-reserved0 = refl
-value-header n reserved2 = refl
+value-header n f = every (λ g. value g (header n) ≡ n g) (omega arith) f
 
 pub value-decoded : (s : List ℕ) (f : Field) → value f (decoded s) ≡ number s f
 unfolding decoded
@@ -128,7 +106,6 @@ ordered [] first end t = omega arith
 ordered (f ∷ fs) first end t = omega (arith, ordered fs (first + span f .width) end (t .1))
 
 within : (fs : List Field) (first end : ℕ) → Tiles first fs end → Each (λ f. span f .offset + span f .width ≤ end) fs
-unfolding Each
 within [] first end t = tt
 within (f ∷ fs) first end t =
     let next = first + span f .width in
@@ -136,20 +113,21 @@ within (f ∷ fs) first end t =
 
 -- ---- decoding
 
--- only the first 64 bytes count
-pub decoded-take : (s : List ℕ) → decoded (take 64 s) ≡ decoded s
-decoded-take s =
+-- "Decoding uses the first 64 bytes of what is lent": bytes behind them change nothing
+pub decoded-take : (n : ℕ) (s : List ℕ) → 64 ≤ n → decoded (take n s) ≡ decoded s
+decoded-take n s enough =
     same-fields _ _
     (λ f.
-    value-decoded (take 64 s) f
-    ∙ numberAt-take s 64 (span f .offset) (span f .width) (every (λ g. span g .offset + span g .width ≤ 64) (within fields 0 64 tiled) f)
+    let inside = every (λ g. span g .offset + span g .width ≤ 64) (within fields 0 64 tiled) f in
+    value-decoded (take n s) f
+    ∙ numberAt-take s n (span f .offset) (span f .width) (omega arith)
     ∙ sym (value-decoded s f))
 
 module _ (h : RdhCru) (fits : Fits h) (rest : List ℕ) where
   -- behind as many bytes p as stand before them, the fields' bytes hold the header's numbers
   numbers-back : (fs : List Field) (first end : ℕ) → Tiles first fs end → (p : List ℕ) → length p ≡ first
       → Each (λ f. number (p ++ (bytesIn fs h ++ rest)) f ≡ value f h) fs
-  unfolding Each bytesIn
+  unfolding bytesIn
   numbers-back [] first end t p long = tt
   numbers-back (f ∷ fs) first end t p long =
       let width = span f .width in
@@ -164,7 +142,7 @@ module _ (h : RdhCru) (fits : Fits h) (rest : List ℕ) where
             (numbers-back fs (first + width) end (t .1) (p ++ own) (omega (arith, length-append p own, length-bytesOf width (value f h)))),
       )
 
-  -- encode, then decode: the same header, whatever bytes follow
+  -- "encode then decode the same header", whatever bytes follow
   pub decoded-encoded : decoded (encoded h ++ rest) ≡ h
   decoded-encoded =
       same-fields _ _
@@ -190,7 +168,7 @@ module _ (s : List ℕ) (bytes : Bytes s) where
       ∙ ap (λ (l : List ℕ). l ++ bytesIn fs (decoded s)) (sym (take-add first width s))
       ∙ bytes-back fs next end (t .1) fit
 
-  -- decode, then encode: the same 64 bytes
+  -- "Decode then encode gives the same 64 bytes"
   pub encoded-decoded : 64 ≤ length s → encoded (decoded s) ≡ take 64 s
   encoded-decoded long = bytes-back fields 0 64 tiled long
 

@@ -2,3 +2,4 @@ pub mod Subfields
 pub mod Layout
 pub mod LayoutLaws
 pub mod Refusals
+pub mod Words

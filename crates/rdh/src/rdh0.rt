@@ -3,13 +3,13 @@ ghost use mathlib.Core.Path.{_≡_};
 ghost use mathlib.Core.List.{_++_};
 ghost use Prim.Native.Nat.{_≤_};
 ghost use lib.ListN.{length};
-ghost use lib.Seq.{sets};
 ghost use Rattle.basis.specs.Bytes.{bytesOf};
 ghost use Rattle.rdh.specs.Layout.{decoded};
 ghost use Rattle.rdh.specs.Subfields.{layerOf, staveOf, uplinkOf};
+use crate::little_endian::join_u8;
+use crate::little_endian::join_u16;
+use crate::little_endian::join_u32;
 use crate::little_endian::read_u16;
-use crate::little_endian::write_u8;
-use crate::little_endian::write_u16;
 
 // The FEE id, which packs the layer, the fibre uplink and the stave into 16 bits.
 pub struct FeeId(pub u16);
@@ -61,16 +61,14 @@ impl Rdh0 {
         }
     }
 
-    // Writes the word where it stands in a header that starts where `out` does.
-    pub(crate) fn write(self, out: &mut [u8])
-        requires { ⌜ 64 ≤ length (now out) ⌝ }
-        ensures { λ _. ⌜ now (out .exit) ≡ sets (now (out .entry)) 0 (bytesOf 1 (self .«header_id») ++ (bytesOf 1 (self .«header_size») ++ (bytesOf 2 (self .«fee_id» .0) ++ (bytesOf 1 (self .«priority_bit») ++ (bytesOf 1 (self .«system_id») ++ (bytesOf 2 (self .reserved0))))))) ⌝ }
+    // The word as one number, its first byte lowest.
+    pub(crate) fn word(self) -> u64
+        ensures { λ r. ⌜ bytesOf 8 r
+            ≡ bytesOf 1 (self .«header_id») ++ bytesOf 1 (self .«header_size») ++ bytesOf 2 (self .«fee_id» .0)
+            ++ (bytesOf 1 (self .«priority_bit») ++ bytesOf 1 (self .«system_id») ++ bytesOf 2 (self .reserved0)) ⌝ }
     {
-        write_u8(out, 0, self.header_id);
-        write_u8(out, 1, self.header_size);
-        write_u16(out, 2, self.fee_id.0);
-        write_u8(out, 4, self.priority_bit);
-        write_u8(out, 5, self.system_id);
-        write_u16(out, 6, self.reserved0);
+        let first = join_u16(join_u8(self.header_id, self.header_size), self.fee_id.0);
+        let second = join_u16(join_u8(self.priority_bit, self.system_id), self.reserved0);
+        join_u32(first, second)
     }
 }

@@ -3,12 +3,11 @@ ghost use mathlib.Core.Path.{_≡_};
 ghost use mathlib.Core.List.{_++_};
 ghost use Prim.Native.Nat.{_≤_};
 ghost use lib.ListN.{length};
-ghost use lib.Seq.{sets};
 ghost use Rattle.basis.specs.Bytes.{bytesOf};
 ghost use Rattle.rdh.specs.Layout.{decoded};
 ghost use Rattle.rdh.specs.Subfields.{bcOf, bcReservedOf};
+use crate::little_endian::join_u32;
 use crate::little_endian::read_u32;
-use crate::little_endian::write_u32;
 
 // The bunch counter, 12 bits, and 20 reserved bits above it.
 pub struct BcReserved(pub u32);
@@ -30,13 +29,11 @@ impl Rdh1 {
         }
     }
 
-    // Writes the word where it stands in a header that starts where `out` does.
-    pub(crate) fn write(self, out: &mut [u8])
-        requires { ⌜ 64 ≤ length (now out) ⌝ }
-        ensures { λ _. ⌜ now (out .exit) ≡ sets (now (out .entry)) 16 (bytesOf 4 (self .«bc_reserved0» .0) ++ (bytesOf 4 (self .orbit))) ⌝ }
+    // The word as one number, its first byte lowest.
+    pub(crate) fn word(self) -> u64
+        ensures { λ r. ⌜ bytesOf 8 r ≡ bytesOf 4 (self .«bc_reserved0» .0) ++ bytesOf 4 (self .orbit) ⌝ }
     {
-        write_u32(out, 16, self.bc_reserved0.0);
-        write_u32(out, 20, self.orbit);
+        join_u32(self.bc_reserved0.0, self.orbit)
     }
 
     // The bunch counter.

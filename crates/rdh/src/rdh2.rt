@@ -3,14 +3,13 @@ ghost use mathlib.Core.Path.{_≡_};
 ghost use mathlib.Core.List.{_++_};
 ghost use Prim.Native.Nat.{_≤_};
 ghost use lib.ListN.{length};
-ghost use lib.Seq.{sets};
 ghost use Rattle.basis.specs.Bytes.{bytesOf};
 ghost use Rattle.rdh.specs.Layout.{decoded};
+use crate::little_endian::join_u8;
+use crate::little_endian::join_u16;
+use crate::little_endian::join_u32;
 use crate::little_endian::read_u16;
 use crate::little_endian::read_u32;
-use crate::little_endian::write_u8;
-use crate::little_endian::write_u16;
-use crate::little_endian::write_u32;
 
 pub struct Rdh2 {
     pub trigger_type: u32,
@@ -33,14 +32,13 @@ impl Rdh2 {
         }
     }
 
-    // Writes the word where it stands in a header that starts where `out` does.
-    pub(crate) fn write(self, out: &mut [u8])
-        requires { ⌜ 64 ≤ length (now out) ⌝ }
-        ensures { λ _. ⌜ now (out .exit) ≡ sets (now (out .entry)) 32 (bytesOf 4 (self .«trigger_type») ++ (bytesOf 2 (self .«pages_counter») ++ (bytesOf 1 (self .«stop_bit») ++ (bytesOf 1 (self .reserved0))))) ⌝ }
+    // The word as one number, its first byte lowest.
+    pub(crate) fn word(self) -> u64
+        ensures { λ r. ⌜ bytesOf 8 r
+            ≡ bytesOf 4 (self .«trigger_type»)
+            ++ (bytesOf 2 (self .«pages_counter») ++ (bytesOf 1 (self .«stop_bit») ++ bytesOf 1 (self .reserved0))) ⌝ }
     {
-        write_u32(out, 32, self.trigger_type);
-        write_u16(out, 36, self.pages_counter);
-        write_u8(out, 38, self.stop_bit);
-        write_u8(out, 39, self.reserved0);
+        let second = join_u16(self.pages_counter, join_u8(self.stop_bit, self.reserved0));
+        join_u32(self.trigger_type, second)
     }
 }

@@ -3,13 +3,12 @@ ghost use mathlib.Core.Path.{_≡_};
 ghost use mathlib.Core.List.{_++_};
 ghost use Prim.Native.Nat.{_≤_};
 ghost use lib.ListN.{length};
-ghost use lib.Seq.{sets};
 ghost use Rattle.basis.specs.Bytes.{bytesOf};
 ghost use Rattle.rdh.specs.Layout.{decoded};
+use crate::little_endian::join_u16;
+use crate::little_endian::join_u32;
 use crate::little_endian::read_u16;
 use crate::little_endian::read_u32;
-use crate::little_endian::write_u16;
-use crate::little_endian::write_u32;
 
 pub struct Rdh3 {
     pub detector_field: u32,
@@ -30,13 +29,11 @@ impl Rdh3 {
         }
     }
 
-    // Writes the word where it stands in a header that starts where `out` does.
-    pub(crate) fn write(self, out: &mut [u8])
-        requires { ⌜ 64 ≤ length (now out) ⌝ }
-        ensures { λ _. ⌜ now (out .exit) ≡ sets (now (out .entry)) 48 (bytesOf 4 (self .«detector_field») ++ (bytesOf 2 (self .«par_bit») ++ (bytesOf 2 (self .reserved0)))) ⌝ }
+    // The word as one number, its first byte lowest.
+    pub(crate) fn word(self) -> u64
+        ensures { λ r. ⌜ bytesOf 8 r
+            ≡ bytesOf 4 (self .«detector_field») ++ (bytesOf 2 (self .«par_bit») ++ bytesOf 2 (self .reserved0)) ⌝ }
     {
-        write_u32(out, 48, self.detector_field);
-        write_u16(out, 52, self.par_bit);
-        write_u16(out, 54, self.reserved0);
+        join_u32(self.detector_field, join_u16(self.par_bit, self.reserved0))
     }
 }

@@ -1,23 +1,24 @@
 // The whole header as the common readout unit (CRU) writes it: 64 bytes.
 ghost use mathlib.Core.Path.{_≡_};
 ghost use mathlib.Core.List.{_++_};
-ghost use Prim.Native.Nat.{_≤_};
-ghost use lib.ListN.{drop, length, take};
-ghost use lib.Seq.{sets};
 ghost use Rattle.basis.specs.Bytes.{bytesOf};
-ghost use Rattle.rdh.specs.Layout.{decode, encode, encoded, encodedInto};
+ghost use Rattle.rdh.specs.Layout.{decode, encode, encodedInto, Equal};
 ghost use Rattle.rdh.specs.Refusals.{decodeAnswer, encodeAnswer};
+ghost use Rattle.rdh.specs.Words.{Words};
 ghost use Rattle.rdh.specs.Subfields.{cruIdOf, dataFormatOf, dwOf};
+use crate::little_endian::join_u8;
+use crate::little_endian::join_u16;
+use crate::little_endian::join_u32;
 use crate::little_endian::read_u16;
 use crate::little_endian::read_u64;
-use crate::little_endian::write_u8;
-use crate::little_endian::write_u16;
-use crate::little_endian::write_u64;
+use crate::little_endian::same_words;
+use crate::little_endian::write_words;
 use crate::rdh0::Rdh0;
 use crate::rdh1::Rdh1;
 use crate::rdh2::Rdh2;
 use crate::rdh3::Rdh3;
 
+// The length of a header.
 pub const RDH_CRU_SIZE_BYTES: usize = 64;
 
 // The number of the common readout unit, 12 bits, and of its data wrapper (dw), 4 bits above it.
@@ -41,18 +42,20 @@ pub struct RdhCru {
     pub reserved2: u64,
 }
 
+// What `from_buf` answers.
 pub enum FromBuf {
     Rdh(RdhCru),
     TooShort,
 }
 
+// What `to_byte_slice` answers.
 pub enum ToByteSlice {
     Written,
     TooShort,
 }
 
 impl RdhCru {
-    // The header in the first 64 bytes of `buf`.
+    // The header in the first 64 bytes of `buf`; what follows them is not read.
     pub fn from_buf(buf: &[u8]) -> FromBuf
         ensures { λ r. ⌜ decodeAnswer r ≡ decode (now (buf .entry)) ⌝ }
     {
@@ -75,7 +78,7 @@ impl RdhCru {
         })
     }
 
-    // Writes the header to the first 64 bytes of `out`, and nothing where there are fewer.
+    // Writes the header to the first 64 bytes of `out`, or nothing where there are fewer.
     pub fn to_byte_slice(self, out: &mut [u8]) -> ToByteSlice
         ensures answer { λ r. ⌜ encodeAnswer r ≡ encode (now (out .entry)) ⌝ }
         ensures left { λ _. ⌜ now (out .exit) ≡ encodedInto self (now (out .entry)) ⌝ }
@@ -83,43 +86,37 @@ impl RdhCru {
         if out.len() < RDH_CRU_SIZE_BYTES {
             return ToByteSlice::TooShort;
         }
-        self.write_first(out);
-        self.write_second(out);
+        write_words(out, self.words());
         ToByteSlice::Written
     }
 
-    // Bytes 0 to 31 of the header.
-    fn write_first(self, out: &mut [u8])
-        requires { ⌜ 64 ≤ length (now out) ⌝ }
-        ensures { λ _. ⌜ now (out .exit) ≡ sets (now (out .entry)) 0 (take 32 (encoded self)) ⌝ }
+    // Equality by bytes, eight at a time.
+    pub fn eq(self, other: RdhCru) -> bool
+        ensures { λ r. ⌜ Equal self other r ⌝ }
     {
-        self.rdh0.write(out);
-        self.write_packet(out);
-        self.rdh1.write(out);
-        write_u64(out, 24, self.dataformat_reserved0.0);
+        same_words(self.words(), other.words())
     }
 
-    // Bytes 32 to 63.
-    fn write_second(self, out: &mut [u8])
-        requires { ⌜ 64 ≤ length (now out) ⌝ }
-        ensures { λ _. ⌜ now (out .exit) ≡ sets (now (out .entry)) 32 (drop 32 (encoded self)) ⌝ }
+    // The header as eight words of eight bytes, each as one number.
+    fn words(self) -> [u64; 8]
+        ensures { λ r. ⌜ Words self r ⌝ }
     {
-        self.rdh2.write(out);
-        write_u64(out, 40, self.reserved1);
-        self.rdh3.write(out);
-        write_u64(out, 56, self.reserved2);
-    }
-
-    // The second word, which has no struct of its own.
-    fn write_packet(self, out: &mut [u8])
-        requires { ⌜ 64 ≤ length (now out) ⌝ }
-        ensures { λ _. ⌜ now (out .exit) ≡ sets (now (out .entry)) 8 (bytesOf 2 (self .«offset_new_packet») ++ (bytesOf 2 (self .«memory_size») ++ (bytesOf 1 (self .«link_id») ++ (bytesOf 1 (self .«packet_counter») ++ (bytesOf 2 (self .«cruid_dw» .0)))))) ⌝ }
-    {
-        write_u16(out, 8, self.offset_new_packet);
-        write_u16(out, 10, self.memory_size);
-        write_u8(out, 12, self.link_id);
-        write_u8(out, 13, self.packet_counter);
-        write_u16(out, 14, self.cruid_dw.0);
+        [
+            self.rdh0.word(),
+            packet_word(
+                self.offset_new_packet,
+                self.memory_size,
+                self.link_id,
+                self.packet_counter,
+                self.cruid_dw.0,
+            ),
+            self.rdh1.word(),
+            self.dataformat_reserved0.0,
+            self.rdh2.word(),
+            self.reserved1,
+            self.rdh3.word(),
+            self.reserved2,
+        ]
     }
 
     pub fn cru_id(self) -> u16
@@ -139,4 +136,14 @@ impl RdhCru {
     {
         (self.dataformat_reserved0.0 % 256) as u8
     }
+}
+
+// The second word, which has no struct of its own, as one number, its first byte lowest.
+fn packet_word(offset: u16, memory: u16, link: u8, packet: u8, cruid_dw: u16) -> u64
+    ensures { λ r. ⌜ bytesOf 8 r
+        ≡ bytesOf 2 offset ++ bytesOf 2 memory
+        ++ (bytesOf 1 link ++ bytesOf 1 packet ++ bytesOf 2 «cruid_dw») ⌝ }
+{
+    let second = join_u16(join_u8(link, packet), cruid_dw);
+    join_u32(join_u16(offset, memory), second)
 }

@@ -8,38 +8,21 @@ use Rattle.rdh.proofs.little_endian.read_u32.Tie as tie
 read-u16-requires : tie.Need-read-u16-requires
 read-u16-requires c κs = search needs
 
-cast-low : tie.Need-cast-low
-cast-low c = search needs
-
 add-read-u16 : tie.Need-add-read-u16
 add-read-u16 c = search needs
 
 read-u16-requires-2 : tie.Need-read-u16-requires-2
 read-u16-requires-2 c κs = search needs
 
-cast-high : tie.Need-cast-high
-cast-high c = search needs
-
-mul-result : tie.Need-mul-result
-mul-result c = search needs
-
-add-result : tie.Need-add-result
-add-result c = search needs
+join-u16-requires : tie.Need-join-u16-requires
+join-u16-requires c κs = search needs
 
 returns : tie.Need-returns
 returns c =
-    let start = c .before .before .before in
+    let start = c .before .before .before .before in
     omega (arith, numberAt-join (start .args .buf .now) (start .args .i) 2 2 (omega arith))
 
 pub read-u32-spec : {M : Type 1} → statement M
 read-u32-spec =
     tie.close
-    (tie.spec
-    read-u16-requires
-    cast-low
-    add-read-u16
-    read-u16-requires-2
-    cast-high
-    mul-result
-    add-result
-    returns)
+    (tie.spec read-u16-requires add-read-u16 read-u16-requires-2 join-u16-requires returns)

@@ -8,38 +8,21 @@ use Rattle.rdh.proofs.little_endian.read_u64.Tie as tie
 read-u32-requires : tie.Need-read-u32-requires
 read-u32-requires c κs = search needs
 
-cast-low : tie.Need-cast-low
-cast-low c = search needs
-
 add-read-u32 : tie.Need-add-read-u32
 add-read-u32 c = search needs
 
 read-u32-requires-2 : tie.Need-read-u32-requires-2
 read-u32-requires-2 c κs = search needs
 
-cast-high : tie.Need-cast-high
-cast-high c = search needs
-
-mul-result : tie.Need-mul-result
-mul-result c = search needs
-
-add-result : tie.Need-add-result
-add-result c = search needs
+join-u32-requires : tie.Need-join-u32-requires
+join-u32-requires c κs = search needs
 
 returns : tie.Need-returns
 returns c =
-    let start = c .before .before .before in
+    let start = c .before .before .before .before in
     omega (arith, numberAt-join (start .args .buf .now) (start .args .i) 4 4 (omega arith))
 
 pub read-u64-spec : {M : Type 1} → statement M
 read-u64-spec =
     tie.close
-    (tie.spec
-    read-u32-requires
-    cast-low
-    add-read-u32
-    read-u32-requires-2
-    cast-high
-    mul-result
-    add-result
-    returns)
+    (tie.spec read-u32-requires add-read-u32 read-u32-requires-2 join-u32-requires returns)

@@ -1,5 +1,6 @@
 -- Below 64 bytes the test refuses; from there on each member is the number in its bytes, as the reads ensure.
 use mathlib.Core.Path.{sym}
+use Prim.Native.Nat.{_≤_}
 use native.Mathlib.Omega.{arith}
 use borrow.Author.Needs.{needs}
 use borrow.Author.Tests.{lt-ltb, le-ltb}
@@ -14,7 +15,7 @@ returns : tie.Need-returns
 unfolding decode
 returns c =
     let s = c .before .before .args .buf .now in
-    rw (lt-ltb (length s) 64 (c .if1 .taken))
+    rw (lt-ltb (length s) 64 (omega arith))
 
 from-buf-requires : tie.Need-from-buf-requires
 from-buf-requires c κs = search needs
@@ -56,7 +57,7 @@ returns-2 : tie.Need-returns-2
 unfolding decode decoded header span
 returns-2 c =
     let s = c .before .before .before .before .before .before .before .before .before .before .before .before .before .before .args .buf .now in
-    let long = c .before .before .before .before .before .before .before .before .before .before .before .before .if1 .left in
+    let long : 64 ≤ length s = omega (arith, c .before .before .before .before .before .before .before .before .before .before .before .before .if1 .left) in
     rw (le-ltb (length s) 64 long)
     (λ i.
     gives record {

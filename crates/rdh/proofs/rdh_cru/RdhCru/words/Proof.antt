@@ -1,0 +1,60 @@
+-- The words' bytes are those of their fields, which are the table's in its order.
+use mathlib.Core.List.{[], _++_}
+use Prim.Native.Nat.{_<_, _^_}
+use native.Mathlib.Omega.{arith}
+use borrow.Author.Needs.{needs}
+use Rattle.basis.specs.Bytes.{bytesOf}
+use Rattle.rdh.specs.Layout.{Fits, bytesIn, span, value}
+use Rattle.rdh.specs.LayoutLaws.{every}
+use Rattle.rdh.specs.Words.{wordBytes}
+use Rattle.rdh.proofs.rdh_cru.RdhCru.words.Statement.{statement}
+use Rattle.rdh.proofs.rdh_cru.RdhCru.words.Tie as tie
+
+word-requires : tie.Need-word-requires
+word-requires c κs = search needs
+
+packet-word-requires : tie.Need-packet-word-requires
+packet-word-requires c κs = search needs
+
+word-requires-2 : tie.Need-word-requires-2
+word-requires-2 c κs = search needs
+
+word-requires-3 : tie.Need-word-requires-3
+word-requires-3 c κs = search needs
+
+word-requires-4 : tie.Need-word-requires-4
+word-requires-4 c κs = search needs
+
+-- what the machine knows of a header's numbers
+fits : (c : tie.Start) → Fits (c .args .self)
+unfolding value span
+fits c = every (λ f. value f (c .args .self) < 256 ^ span f .width) (omega arith)
+
+returns : tie.Need-returns
+unfolding wordBytes bytesIn bytesOf span value
+returns c =
+    let h = c .before .before .before .before .before .args .self in
+    record {
+      bytes = λ i.
+          c .before .before .before .before .word .ensures i
+          ++ (c .before .before .before .packet-word .ensures i
+          ++ (c .before .before .word2 .ensures i
+          ++ (bytesOf 8 (h .«dataformat_reserved0» .0)
+          ++ (c .before .word3 .ensures i
+          ++ (bytesOf 8 (h .reserved1)
+          ++ (c .word4 .ensures i
+          ++ (bytesOf 8 (h .reserved2)
+          ++ [])))))));
+      fits = fits (c .before .before .before .before .before);
+    }
+
+pub words-spec : {M : Type 1} → statement M
+words-spec =
+    tie.close
+    (tie.spec
+    word-requires
+    packet-word-requires
+    word-requires-2
+    word-requires-3
+    word-requires-4
+    returns)
