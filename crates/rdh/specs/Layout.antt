@@ -150,8 +150,8 @@ abbrev pub encoded : RdhCru → List ℕ
 encoded h = bytesIn fields h
 
 -- Every number of the header is one that its field's bytes can hold, as is so of each header in the code.
-abbrev pub Fits : RdhCru → Type 0
-Fits h = (f : Field) → value f h < 256 ^ span f .width
+abbrev pub InRange : RdhCru → Type 0
+InRange h = (f : Field) → value f h < 256 ^ span f .width
 
 -- What decoding answers: refusal 9, "fewer than 64 bytes lent to decode or encode", or the header.
 unfoldable pub decode : List ℕ → Answer RdhCru

@@ -13,7 +13,7 @@ use Rattle.basis.specs.Bytes.{Bytes, bytesOf, numberAt}
 use Rattle.basis.specs.BytesLaws.{length-bytesOf, bytesOf-numberAt, numberAt-bytesOf, numberAt-take}
 use Rattle.basis.specs.Pick.{pick}
 use Rattle.rdh.specs.declared.rdh_cru.RdhCru.{RdhCru}
-use Rattle.rdh.specs.Layout.{Field, fields, span, value, Tiles, header, number, decoded, bytesIn, encoded, Fits}
+use Rattle.rdh.specs.Layout.{Field, fields, span, value, Tiles, header, number, decoded, bytesIn, encoded, InRange}
 use Rattle.rdh.specs.Layout.{header-id, header-size, fee-id, priority-bit, system-id, rdh0-reserved0, offset-new-packet}
 use Rattle.rdh.specs.Layout.{memory-size, link-id, packet-counter, cruid-dw, bc-reserved0, orbit, dataformat-reserved0}
 use Rattle.rdh.specs.Layout.{trigger-type, pages-counter, stop-bit, rdh2-reserved0, reserved1, detector-field, par-bit}
@@ -123,7 +123,7 @@ decoded-take n s enough =
     ∙ numberAt-take s n (span f .offset) (span f .width) (omega arith)
     ∙ sym (value-decoded s f))
 
-module _ (h : RdhCru) (fits : Fits h) (rest : List ℕ) where
+module _ (h : RdhCru) (fits : InRange h) (rest : List ℕ) where
   -- behind as many bytes p as stand before them, the fields' bytes hold the header's numbers
   numbers-back : (fs : List Field) (first end : ℕ) → Tiles first fs end → (p : List ℕ) → length p ≡ first
       → Each (λ f. number (p ++ (bytesIn fs h ++ rest)) f ≡ value f h) fs
@@ -173,6 +173,6 @@ module _ (s : List ℕ) (bytes : Bytes s) where
   encoded-decoded long = bytes-back fields 0 64 tiled long
 
 -- equal by bytes exactly when the same header
-pub same-bytes : (a b : RdhCru) → Fits a → Fits b → (encoded a ≡ encoded b) ↔ (a ≡ b)
+pub same-bytes : (a b : RdhCru) → InRange a → InRange b → (encoded a ≡ encoded b) ↔ (a ≡ b)
 same-bytes a b fits-a fits-b =
     (λ e. sym (decoded-encoded a fits-a []) ∙ ap (λ (s : List ℕ). decoded (s ++ [])) e ∙ decoded-encoded b fits-b [], ap encoded)

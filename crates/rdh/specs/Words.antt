@@ -4,7 +4,7 @@ use mathlib.Core.List.{List, [], _∷_, _++_}
 use Prim.Native.Nat.{ℕ, _+_, _*_, _^_}
 use Rattle.basis.specs.Bytes.{bytesOf}
 use Rattle.rdh.specs.declared.rdh_cru.RdhCru.{RdhCru}
-use Rattle.rdh.specs.Layout.{encoded, Fits}
+use Rattle.rdh.specs.Layout.{encoded, InRange}
 
 -- A number that is joined from two of `width` bytes each: their values, and their bytes.
 pub record Joined (width low high r : ℕ) : Type 0 where
@@ -19,4 +19,4 @@ wordBytes (w ∷ ws) = bytesOf 8 w ++ wordBytes ws
 -- The words hold the header's bytes; and the header is one whose numbers fit them.
 pub record Words (h : RdhCru) (ws : List ℕ) : Type 0 where
   pub bytes : wordBytes ws ≡ encoded h
-  pub fits : Fits h
+  pub fits : InRange h

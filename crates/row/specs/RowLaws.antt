@@ -4,7 +4,7 @@ use mathlib.Core.Path.{_≡_}
 use native.Mathlib.Omega.{arith}
 use lib.ListN.{length, length-append}
 use Rattle.rdh.specs.declared.rdh_cru.RdhCru.{RdhCru}
-use Rattle.rdh.specs.Layout.{Fits, Field, span, value}
+use Rattle.rdh.specs.Layout.{InRange, Field, span, value}
 use Rattle.rdh.specs.Layout.Field.{header-id, header-size, fee-id, system-id, offset-new-packet, link-id, packet-counter, bc-reserved0, orbit, dataformat-reserved0, trigger-type, pages-counter, stop-bit, detector-field}
 use Rattle.rdh.specs.Subfields.{bcOf, dataFormatOf}
 use Rattle.text.specs.Ascii.{ascii}
@@ -12,7 +12,7 @@ use Rattle.text.specs.Numerals.{decimal, hex, left}
 use Rattle.text.specs.NumeralLaws.{decimal-column, hex-column, length-hex}
 use Rattle.row.specs.Row.{rdh0Text, rdh1Text, rdh2Text, rowText}
 
-module _ (h : RdhCru) (fits : Fits h) where
+module _ (h : RdhCru) (fits : InRange h) where
   length-rdh0 : length (rdh0Text (h .rdh0)) ≡ 26
   unfolding rdh0Text span value
   length-rdh0 =

@@ -8,7 +8,7 @@ use lib.Bits.{bitAnd, and-le-r}
 use lib.ListN.{length, length-append}
 use Rattle.basis.specs.Pick.{pick}
 use Rattle.rdh.specs.declared.rdh_cru.RdhCru.{RdhCru}
-use Rattle.rdh.specs.Layout.{Fits, span, value}
+use Rattle.rdh.specs.Layout.{InRange, span, value}
 use Rattle.rdh.specs.Layout.Field.{header-id, header-size, priority-bit, system-id, rdh0-reserved0, bc-reserved0, trigger-type, stop-bit, rdh2-reserved0, detector-field, rdh3-reserved0, cruid-dw}
 use Rattle.rdh.specs.Subfields.{bcOf, bcReservedOf, dataFormatOf, dwOf, layerOf, staveOf}
 use Rattle.text.specs.Ascii.{ascii}
@@ -46,7 +46,7 @@ decimal-piece : (label : String) (k n : ℕ) → n < 10 ^ suc k → length (deci
 decimal-piece label k n small =
     omega (arith, length-append (ascii label ++ decimal n) (ascii " "), length-append (ascii label) (decimal n), length-decimal k n small)
 
-module _ (h : RdhCru) (fits : Fits h) where
+module _ (h : RdhCru) (fits : InRange h) where
   fee-id-pieces : length (pieces (feeIdTests (h .rdh0 .«fee_id» .0))) ≤ 51
   unfolding feeIdTests
   fee-id-pieces =

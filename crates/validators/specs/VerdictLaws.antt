@@ -12,7 +12,7 @@ use mathlib.Core.Logic.{_↔_}
 use Rattle.basis.specs.Pick.{on, off}
 use Rattle.basis.specs.Refusals.{gives, refuses}
 use Rattle.rdh.specs.declared.rdh_cru.RdhCru.{RdhCru}
-use Rattle.rdh.specs.Layout.{Fits}
+use Rattle.rdh.specs.Layout.{InRange}
 use Rattle.text.specs.Put.{Put}
 use Rattle.text.specs.Written.{overwritten}
 use Rattle.text.specs.WrittenLaws.{fitting}
@@ -48,7 +48,7 @@ sound-empty expected its h = (sound-text expected its h, λ e. go (sound expecte
         absurd (omega (arith, some-text expected its h, ap length (sym (unsound-text expected its h is) ∙ e)))
 
 -- "512 bytes always suffice"
-pub suffice : (expected : ℕ) (its : Bool) (h : RdhCru) → expected < 256 → Fits h → length (verdictText expected its h) ≤ 512
+pub suffice : (expected : ℕ) (its : Bool) (h : RdhCru) → expected < 256 → InRange h → length (verdictText expected its h) ≤ 512
 suffice expected its h small fits = go (sound expected its h) refl
   where
     go : (b : Bool) → sound expected its h ≡ b → length (verdictText expected its h) ≤ 512

@@ -1,40 +1,13 @@
 -- A row that has room for the longest one fits; any other is measured first.
 use native.Mathlib.Nat.{le-trans}
 use native.Mathlib.Omega.{arith}
-use Rattle.rdh.specs.Layout.{Field, Fits, span, value}
-use Rattle.rdh.specs.Layout.Field.{header-id, header-size, fee-id, priority-bit, system-id, rdh0-reserved0, offset-new-packet, memory-size, link-id, packet-counter, cruid-dw, bc-reserved0, orbit, dataformat-reserved0, trigger-type, pages-counter, stop-bit, rdh2-reserved0, reserved1, detector-field, par-bit, rdh3-reserved0, reserved2}
+use Rattle.rdh.proofs.Held.{in-range}
 use Rattle.text.specs.PutLaws.{measured}
 use Rattle.text.specs.WrittenLaws.{fitting, too-short}
 use Rattle.row.specs.RowLaws.{longest-row}
 use borrow.Author.Needs.{needs}
 use Rattle.row.proofs.row.Statement.{statement}
 use Rattle.row.proofs.row.Tie as tie
-
-fits : (c : tie.Start) → Fits (c .args .h)
-unfolding span value
-fits c header-id = omega arith
-fits c header-size = omega arith
-fits c fee-id = omega arith
-fits c priority-bit = omega arith
-fits c system-id = omega arith
-fits c rdh0-reserved0 = omega arith
-fits c offset-new-packet = omega arith
-fits c memory-size = omega arith
-fits c link-id = omega arith
-fits c packet-counter = omega arith
-fits c cruid-dw = omega arith
-fits c bc-reserved0 = omega arith
-fits c orbit = omega arith
-fits c dataformat-reserved0 = omega arith
-fits c trigger-type = omega arith
-fits c pages-counter = omega arith
-fits c stop-bit = omega arith
-fits c rdh2-reserved0 = omega arith
-fits c reserved1 = omega arith
-fits c detector-field = omega arith
-fits c par-bit = omega arith
-fits c rdh3-reserved0 = omega arith
-fits c reserved2 = omega arith
 
 put-row-requires : tie.Need-put-row-requires
 put-row-requires c κs = search needs
@@ -45,7 +18,7 @@ same-length c = search needs
 returns : tie.Need-returns
 returns c =
     let start = c .before .before .before .before .before .before in
-    fitting (le-trans (longest-row (start .args .h) (fits start)) (c .before .before .before .before .if1 .taken)) (c .before .before .put-row .ensures)
+    fitting (le-trans (longest-row (start .args .h) (in-range (start .args .h) _ (start .good .0))) (c .before .before .before .before .if1 .taken)) (c .before .before .put-row .ensures)
 
 slice-aggregate-put-row : tie.Need-slice-aggregate-put-row
 slice-aggregate-put-row c = search needs
@@ -56,7 +29,7 @@ put-row-requires-2 c κs = search needs
 returns-2 : tie.Need-returns-2
 returns-2 c =
     let start = c .before .before .before .before .before .before in
-    too-short _ (c .before .before .put-row2 .ensures) (omega (arith, longest-row (start .args .h) (fits start))) (c .if2 .taken)
+    too-short _ (c .before .before .put-row2 .ensures) (omega (arith, longest-row (start .args .h) (in-range (start .args .h) _ (start .good .0)))) (c .if2 .taken)
 
 put-row-requires-3 : tie.Need-put-row-requires-3
 put-row-requires-3 c κs = search needs
@@ -68,7 +41,7 @@ returns-3 : tie.Need-returns-3
 returns-3 c =
     let measured-row = c .before .before .before .before .before .before in
     let start = measured-row .before .before .before .before in
-    let is = measured (measured-row .put-row2 .ensures) (omega (arith, longest-row (start .args .h) (fits start))) in
+    let is = measured (measured-row .put-row2 .ensures) (omega (arith, longest-row (start .args .h) (in-range (start .args .h) _ (start .good .0)))) in
     fitting (omega arith) (c .before .before .put-row3 .ensures)
 
 pub row-spec : {M : Type 1} → statement M

@@ -3,7 +3,7 @@ use native.Mathlib.Nat.{le-trans}
 use native.Mathlib.Omega.{arith}
 use Rattle.text.specs.PutLaws.{measured}
 use Rattle.validators.specs.TextLengths.{longest-text}
-use Rattle.validators.proofs.Held.{fitting}
+use Rattle.rdh.proofs.Held.{in-range}
 use borrow.Author.Needs.{needs}
 use Rattle.validators.proofs.needed.Statement.{statement}
 use Rattle.validators.proofs.needed.Tie as tie
@@ -11,7 +11,7 @@ use Rattle.validators.proofs.needed.Tie as tie
 returns : tie.Need-returns
 returns c =
     let start = c .before in
-    let held = fitting (start .args .rdh) _ (start .good .1 .1 .0) in
+    let held = in-range (start .args .rdh) _ (start .good .1 .1 .0) in
     let longest = longest-text (start .args .rdh) held (start .args .expected) (start .args .its) (omega arith) in
     record { fits = λ room. le-trans longest (c .if1 .taken); exact = λ short. omega arith }
 
@@ -24,7 +24,7 @@ put-text-requires c κs = search needs
 returns-2 : tie.Need-returns-2
 returns-2 c =
     let start = c .before .before .before .before in
-    let held = fitting (start .args .rdh) _ (start .good .1 .1 .0) in
+    let held = in-range (start .args .rdh) _ (start .good .1 .1 .0) in
     let longest = longest-text (start .args .rdh) held (start .args .expected) (start .args .its) (omega arith) in
     let is = measured (c .before .put-text .ensures) (omega arith) in
     record { fits = λ room. omega arith; exact = λ short. is }

@@ -1,12 +1,10 @@
 -- The words' bytes are those of their fields, which are the table's in its order.
 use mathlib.Core.List.{[], _++_}
-use Prim.Native.Nat.{_<_, _^_}
-use native.Mathlib.Omega.{arith}
 use borrow.Author.Needs.{needs}
 use Rattle.basis.specs.Bytes.{bytesOf}
-use Rattle.rdh.specs.Layout.{Fits, bytesIn, span, value}
-use Rattle.rdh.specs.LayoutLaws.{every}
+use Rattle.rdh.specs.Layout.{bytesIn, span, value}
 use Rattle.rdh.specs.Words.{wordBytes}
+use Rattle.rdh.proofs.Held.{in-range}
 use Rattle.rdh.proofs.rdh_cru.RdhCru.words.Statement.{statement}
 use Rattle.rdh.proofs.rdh_cru.RdhCru.words.Tie as tie
 
@@ -25,11 +23,6 @@ word-requires-3 c κs = search needs
 word-requires-4 : tie.Need-word-requires-4
 word-requires-4 c κs = search needs
 
--- what the machine knows of a header's numbers
-fits : (c : tie.Start) → Fits (c .args .self)
-unfolding value span
-fits c = every (λ f. value f (c .args .self) < 256 ^ span f .width) (omega arith)
-
 returns : tie.Need-returns
 unfolding wordBytes bytesIn bytesOf span value
 returns c =
@@ -45,7 +38,7 @@ returns c =
           ++ (c .word4 .ensures i
           ++ (bytesOf 8 (h .reserved2)
           ++ [])))))));
-      fits = fits (c .before .before .before .before .before);
+      fits = in-range h _ (c .before .before .before .before .before .good .0);
     }
 
 pub words-spec : {M : Type 1} → statement M
