@@ -10,7 +10,7 @@ use Rattle.basis.specs.Pick.{pick, on, off}
 use Rattle.text.specs.Ascii.{ascii}
 use Rattle.text.specs.Put.{Put}
 use Rattle.text.specs.PutLaws.{and-then, ended, put-nothing, respelled}
-use Rattle.validators.specs.Tests.{Test, anyFails, pieces, section}
+use Rattle.sanity.specs.Tests.{Test, anyFails, pieces, section}
 
 pub passed : (fails : Bool) (t l : List ℕ) (i : ℕ) → not fails ≡ true → length l < 2 ^ 64 → i < 2 ^ 64
     → Put l i (pick fails t []) l i

@@ -1,5 +1,3 @@
-pub mod Tests
-pub mod TestsLaws
 pub mod TextLengths
 pub mod Verdict
 pub mod VerdictLaws

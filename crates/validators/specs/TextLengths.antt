@@ -14,7 +14,7 @@ use Rattle.rdh.specs.Subfields.{bcOf, bcReservedOf, dataFormatOf, dwOf, layerOf
 use Rattle.text.specs.Ascii.{ascii}
 use Rattle.text.specs.Numerals.{decimal, hex, numeral}
 use Rattle.text.specs.NumeralLaws.{length-hex, length-numeral}
-use Rattle.validators.specs.Tests.{Test, anyFails, hexPiece, decimalPiece, pieces, section, feeIdTests, rdh0Tests, rdh1Tests, rdh2Tests, rdh3Tests, cruTests, failureText}
+use Rattle.sanity.specs.Tests.{Test, anyFails, hexPiece, decimalPiece, pieces, section, feeIdTests, rdh0Tests, rdh1Tests, rdh2Tests, rdh3Tests, cruTests, failureText}
 
 length-pick : (b : Bool) (t : List ℕ) → length (pick b t []) ≤ length t
 length-pick true t = omega arith

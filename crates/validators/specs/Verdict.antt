@@ -16,7 +16,7 @@ use Rattle.validators.specs.declared.RdhCruSanityValidator.{RdhCruSanity
 use Rattle.validators.specs.declared.SanityCheck.{SanityCheck}
 use Rattle.validators.specs.declared.Verdict.{Verdict}
 use Rattle.validators.specs.declared.Verdict.the-variants.{Sound, NotSound, TooShort}
-use Rattle.validators.specs.Tests.{sound, verdictText}
+use Rattle.sanity.specs.Tests.{sound, verdictText}
 
 -- The header ID that a header with this ID is held to: the configured or settled one, or its own where none is settled yet.
 abbrev pub expectedId : HeaderId → ℕ → ℕ

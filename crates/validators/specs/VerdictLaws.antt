@@ -19,7 +19,7 @@ use Rattle.text.specs.WrittenLaws.{fitting}
 use Rattle.validators.specs.declared.HeaderId.{HeaderId}
 use Rattle.validators.specs.declared.RdhCruSanityValidator.{RdhCruSanityValidator}
 use Rattle.validators.specs.declared.Verdict.the-variants.{Sound, NotSound, TooShort}
-use Rattle.validators.specs.Tests.{allTests, anyFails, failureText, sound, verdictText}
+use Rattle.sanity.specs.Tests.{allTests, anyFails, failureText, sound, verdictText}
 use Rattle.validators.specs.TextLengths.{longest-text}
 use Rattle.validators.specs.Verdict.{Checks, Judged, answered, expectedId, settledBy, settledId, soundTo, textOf, validatorAfter}
 

@@ -13,7 +13,7 @@ use Rattle.rdh.specs.declared.rdh_cru.RdhCru.{RdhCru}
 use Rattle.validators.specs.declared.HeaderId.{HeaderId}
 use Rattle.validators.specs.declared.HeaderId.the-variants.{Configured, NotSettled, Settled}
 use Rattle.validators.specs.declared.RdhCruSanityValidator.{RdhCruSanityValidator}
-use Rattle.validators.specs.Tests.{verdictText}
+use Rattle.sanity.specs.Tests.{verdictText}
 use Rattle.validators.specs.Verdict.{Judged, answered, settledBy, textOf, validatorAfter}
 
 -- A header put, and the length of the text buffer lent.

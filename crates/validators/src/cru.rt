@@ -1,21 +1,10 @@
 // What the header has beside its words: data wrapper and data format.
-ghost use mathlib.Core.Path.{_≡_};
-ghost use Rattle.validators.specs.Tests.{anyFails, cruTests, pieces};
+ghost use Rattle.sanity.specs.Tests.{cruTests, pieces};
 ghost use Rattle.text.specs.Put.{Put};
 use crate::piece;
 use rdh::rdh_cru::RdhCru;
-
-const DW_MAX: u8 = 1;
-
-const DATA_FORMAT_MAX: u8 = 2;
-
-pub(crate) fn fails(rdh: RdhCru) -> bool
-    ensures { λ r. ⌜ r ≡ anyFails (cruTests rdh) ⌝ }
-{
-    let dw = rdh.dw();
-    let data_format = rdh.data_format();
-    (dw > DW_MAX) | (data_format > DATA_FORMAT_MAX)
-}
+use sanity::cru::DATA_FORMAT_MAX;
+use sanity::cru::DW_MAX;
 
 pub(crate) fn put(out: &mut [u8], at: usize, rdh: RdhCru) -> usize
     ensures { λ r. ⌜ Put (now (out .entry)) at (pieces (cruTests rdh)) (now (out .exit)) r ⌝ }

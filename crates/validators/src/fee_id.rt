@@ -1,24 +1,11 @@
 // The FEE id: reserved bits, stave and layer.
-ghost use mathlib.Core.Path.{_≡_};
-ghost use Rattle.validators.specs.Tests.{anyFails, pieces, feeIdTests};
+ghost use Rattle.sanity.specs.Tests.{pieces, feeIdTests};
 ghost use Rattle.text.specs.Put.{Put};
 use crate::piece;
 use rdh::rdh0::FeeId;
-
-const RESERVED_BITS_MASK: u16 = 0b1000_1100_1100_0000;
-
-const STAVE_NUMBER_MAX: u8 = 47;
-
-const LAYER_MAX: u8 = 6;
-
-pub(crate) fn fails(fee_id: FeeId) -> bool
-    ensures { λ r. ⌜ r ≡ anyFails (feeIdTests («fee_id» .0)) ⌝ }
-{
-    let reserved_bits = fee_id.0 & RESERVED_BITS_MASK;
-    let stave_number = fee_id.stave();
-    let layer = fee_id.layer();
-    (reserved_bits != 0) | (stave_number > STAVE_NUMBER_MAX) | (layer > LAYER_MAX)
-}
+use sanity::fee_id::LAYER_MAX;
+use sanity::fee_id::RESERVED_BITS_MASK;
+use sanity::fee_id::STAVE_NUMBER_MAX;
 
 pub(crate) fn put(out: &mut [u8], at: usize, fee_id: FeeId) -> usize
     ensures { λ r. ⌜ Put (now (out .entry)) at (pieces (feeIdTests («fee_id» .0))) (now (out .exit)) r ⌝ }

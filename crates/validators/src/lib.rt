@@ -1,7 +1,7 @@
 // The verdict: whether a header is sound, in the Rust's words. A module for each word of the header, as the Rust has a validator for
 // each.
 ghost use mathlib.Core.Path.{_≡_};
-ghost use Rattle.validators.specs.Tests.{allTests, anyFails, failureText};
+ghost use Rattle.sanity.specs.Tests.{failureText};
 ghost use Rattle.validators.specs.Verdict.{Checks, Needed, expectedId, settledId};
 ghost use Rattle.text.specs.Put.{Put};
 use rdh::rdh_cru::RdhCru;
@@ -58,7 +58,7 @@ impl RdhCruSanityValidator {
             header_id: settled_id(header_id, id),
             its,
         };
-        if !fails(expected, its, rdh) {
+        if !sanity::fails(expected, its, rdh) {
             return SanityCheck {
                 verdict: Verdict::Sound,
                 validator: settled,
@@ -98,17 +98,6 @@ fn settled_id(header_id: HeaderId, id: u8) -> HeaderId
         HeaderId::NotSettled => HeaderId::Settled(id),
         HeaderId::Settled(n) => HeaderId::Settled(n),
     }
-}
-
-// Whether any test fails. No text is made.
-fn fails(expected: u8, its: bool, rdh: RdhCru) -> bool
-    ensures { λ r. ⌜ r ≡ anyFails (allTests expected its rdh) ⌝ }
-{
-    let rdh0 = rdh0::fails(expected, its, rdh.rdh0);
-    let rdh1 = rdh1::fails(rdh.rdh1);
-    let rdh2 = rdh2::fails(rdh.rdh2);
-    let rdh3 = rdh3::fails(rdh.rdh3);
-    rdh0 | rdh1 | rdh2 | rdh3 | cru::fails(rdh)
 }
 
 // The length that the text of a header that is not sound needs, or 0 where any text fits the room.

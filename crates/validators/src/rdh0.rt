@@ -1,6 +1,5 @@
 // RDH0: header ID, header size, FEE id, priority bit, system id and reserved bits.
-ghost use mathlib.Core.Path.{_≡_};
-ghost use Rattle.validators.specs.Tests.{anyFails, feeIdTests, pieces, rdh0Tests, section};
+ghost use Rattle.sanity.specs.Tests.{anyFails, feeIdTests, pieces, rdh0Tests, section};
 ghost use mathlib.Core.Bool.{not};
 ghost use mathlib.Core.List.{[], _++_};
 ghost use lib.Dec.{eqb};
@@ -12,21 +11,9 @@ use crate::fee_id;
 use crate::piece;
 use rdh::rdh0::FeeId;
 use rdh::rdh0::Rdh0;
-
-const HEADER_SIZE: u8 = 0x40;
-
-const ITS_SYSTEM_ID: u8 = 32;
-
-pub(crate) fn fails(expected: u8, its: bool, rdh0: Rdh0) -> bool
-    ensures { λ r. ⌜ r ≡ anyFails (rdh0Tests expected its rdh0) ⌝ }
-{
-    let header_id = rdh0.header_id != expected;
-    let header_size = rdh0.header_size != HEADER_SIZE;
-    let fee_id = fee_id::fails(rdh0.fee_id);
-    let priority_bit = rdh0.priority_bit != 0;
-    let system_id = its & (rdh0.system_id != ITS_SYSTEM_ID);
-    header_id | header_size | fee_id | priority_bit | system_id | (rdh0.reserved0 != 0)
-}
+use sanity::rdh0::HEADER_SIZE;
+use sanity::rdh0::ITS_SYSTEM_ID;
+use sanity::rdh0::fails;
 
 pub(crate) fn put(out: &mut [u8], at: usize, expected: u8, its: bool, rdh0: Rdh0) -> usize
     ensures { λ r. ⌜ Put (now (out .entry)) at (section "RDH0: " (rdh0Tests expected its rdh0)) (now (out .exit)) r ⌝ }
@@ -89,7 +76,7 @@ fn put_fee_id(out: &mut [u8], at: usize, fee_id: FeeId) -> usize
         (pick (anyFails (feeIdTests («fee_id» .0))) (ascii "FEE ID = [" ++ pieces (feeIdTests («fee_id» .0)) ++ ascii "] ") [])
         (now (out .exit)) r ⌝ }
 {
-    if !fee_id::fails(fee_id) {
+    if !sanity::fee_id::fails(fee_id) {
         return at;
     }
     let at = text::put_bytes(out, at, b"FEE ID = [");

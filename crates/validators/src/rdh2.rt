@@ -1,25 +1,10 @@
 // RDH2: reserved bits, stop bit and trigger type.
-ghost use mathlib.Core.Path.{_≡_};
-ghost use Rattle.validators.specs.Tests.{anyFails, rdh2Tests, section};
-ghost use mathlib.Core.Bool.{not, _||_};
-ghost use lib.Dec.{eqb};
-ghost use Rattle.basis.specs.Bits.{bits};
+ghost use Rattle.sanity.specs.Tests.{rdh2Tests, section};
 ghost use Rattle.text.specs.Put.{Put};
 use crate::piece;
 use rdh::rdh2::Rdh2;
-
-pub(crate) fn fails(rdh2: Rdh2) -> bool
-    ensures { λ r. ⌜ r ≡ anyFails (rdh2Tests rdh2) ⌝ }
-{
-    (rdh2.reserved0 != 0) | (rdh2.stop_bit > 1) | trigger_type_fails(rdh2.trigger_type)
-}
-
-// No trigger at all, or one of the spare bits 15 to 26.
-fn trigger_type_fails(trigger_type: u32) -> bool
-    ensures { λ r. ⌜ r ≡ (eqb «trigger_type» 0 || not (eqb (bits 15 26 «trigger_type») 0)) ⌝ }
-{
-    (trigger_type == 0) | (trigger_type / 0x8000 % 0x1000 != 0)
-}
+use sanity::rdh2::fails;
+use sanity::rdh2::trigger_type_fails;
 
 pub(crate) fn put(out: &mut [u8], at: usize, rdh2: Rdh2) -> usize
     ensures { λ r. ⌜ Put (now (out .entry)) at (section "RDH2: " (rdh2Tests rdh2)) (now (out .exit)) r ⌝ }

@@ -1,6 +1,6 @@
 -- The title and the five parts, one behind the other.
 use Rattle.text.specs.PutLaws.{and-then}
-use Rattle.validators.specs.Tests.{failureText}
+use Rattle.sanity.specs.Tests.{failureText}
 use borrow.Author.Needs.{needs}
 use Rattle.validators.proofs.put_text.Statement.{statement}
 use Rattle.validators.proofs.put_text.Tie as tie

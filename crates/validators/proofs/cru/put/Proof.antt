@@ -1,13 +1,13 @@
 -- The two pieces, one behind the other.
 use Rattle.text.specs.PutLaws.{and-then, respelled}
-use Rattle.validators.specs.Tests.{pieces, cruTests}
+use Rattle.sanity.specs.Tests.{pieces, cruTests}
 use Rattle.validators.proofs.Pieces.{last-piece}
 use Prim.Native.Nat.{ℕ}
 use mathlib.Core.Path.{ap}
 use mathlib.Core.List.{[]}
 use lib.Dec.{ltb}
 use Rattle.basis.specs.Pick.{pick}
-use Rattle.validators.specs.Tests.{hexPiece}
+use Rattle.sanity.specs.Tests.{hexPiece}
 use borrow.Author.Needs.{needs}
 use Rattle.validators.proofs.cru.put.Statement.{statement}
 use Rattle.validators.proofs.cru.put.Tie as tie

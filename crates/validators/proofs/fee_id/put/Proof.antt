@@ -1,6 +1,6 @@
 -- The three pieces, one behind the other.
 use Rattle.text.specs.PutLaws.{and-then, respelled}
-use Rattle.validators.specs.Tests.{pieces, feeIdTests}
+use Rattle.sanity.specs.Tests.{pieces, feeIdTests}
 use Rattle.validators.proofs.Pieces.{last-piece}
 use mathlib.Core.Path.{ap}
 use native.Mathlib.Nat.{lt-of-le-of-lt}
@@ -10,7 +10,7 @@ use Prim.Native.Nat.{ℕ}
 use mathlib.Core.List.{[]}
 use lib.Dec.{ltb}
 use Rattle.basis.specs.Pick.{pick}
-use Rattle.validators.specs.Tests.{decimalPiece}
+use Rattle.sanity.specs.Tests.{decimalPiece}
 use borrow.Author.Needs.{needs}
 use Rattle.validators.proofs.fee_id.put.Statement.{statement}
 use Rattle.validators.proofs.fee_id.put.Tie as tie

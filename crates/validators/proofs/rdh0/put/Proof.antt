@@ -1,7 +1,7 @@
 -- The heading and the six pieces, one behind the other, where any test fails.
 use Rattle.text.specs.PutLaws.{and-then}
 use Rattle.text.specs.PutLaws.{same-length as kept-length}
-use Rattle.validators.specs.Tests.{pieces, rdh0Tests}
+use Rattle.sanity.specs.Tests.{pieces, rdh0Tests}
 use Rattle.validators.proofs.Pieces.{a-section, last-piece, no-section}
 use native.Mathlib.Omega.{arith}
 use borrow.Author.Needs.{needs}

@@ -3,7 +3,7 @@ use mathlib.Core.Bool.{not}
 use mathlib.Core.Path.{ap, sym, _∙_}
 use native.Mathlib.Omega.{arith}
 use Rattle.text.specs.PutLaws.{and-then}
-use Rattle.validators.specs.Tests.{anyFails, feeIdTests}
+use Rattle.sanity.specs.Tests.{anyFails, feeIdTests}
 use Rattle.validators.proofs.Pieces.{failed, passed}
 use borrow.Author.Needs.{needs}
 use Rattle.validators.proofs.rdh0.put_fee_id.Statement.{statement}

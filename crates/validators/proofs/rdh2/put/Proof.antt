@@ -1,12 +1,12 @@
 -- The heading and the three pieces, one behind the other, where any test fails.
 use Rattle.text.specs.PutLaws.{and-then, respelled}
-use Rattle.validators.specs.Tests.{pieces, rdh2Tests}
+use Rattle.sanity.specs.Tests.{pieces, rdh2Tests}
 use Rattle.validators.proofs.Pieces.{a-section, last-piece, no-section}
 use mathlib.Core.Bool.{Bool}
 use mathlib.Core.Path.{ap}
 use mathlib.Core.List.{[]}
 use Rattle.basis.specs.Pick.{pick}
-use Rattle.validators.specs.Tests.{hexPiece}
+use Rattle.sanity.specs.Tests.{hexPiece}
 use native.Mathlib.Omega.{arith}
 use borrow.Author.Needs.{needs}
 use Rattle.validators.proofs.rdh2.put.Statement.{statement}

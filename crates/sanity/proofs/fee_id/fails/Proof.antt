@@ -1,10 +1,10 @@
 -- The three tests as the FEE id gives their numbers.
 use mathlib.Core.Path.{sym}
-use Rattle.validators.specs.Tests.{feeIdTests}
-use Rattle.validators.specs.TestsLaws.{any-of-3}
+use Rattle.sanity.specs.Tests.{feeIdTests}
+use Rattle.sanity.specs.TestsLaws.{any-of-3}
 use borrow.Author.Needs.{needs}
-use Rattle.validators.proofs.fee_id.fails.Statement.{statement}
-use Rattle.validators.proofs.fee_id.fails.Tie as tie
+use Rattle.sanity.proofs.fee_id.fails.Statement.{statement}
+use Rattle.sanity.proofs.fee_id.fails.Tie as tie
 
 stave-requires : tie.Need-stave-requires
 stave-requires c κs = search needs

@@ -1,10 +1,10 @@
 -- The two tests as the header gives their numbers.
 use mathlib.Core.Path.{sym}
-use Rattle.validators.specs.Tests.{cruTests}
-use Rattle.validators.specs.TestsLaws.{any-of-2}
+use Rattle.sanity.specs.Tests.{cruTests}
+use Rattle.sanity.specs.TestsLaws.{any-of-2}
 use borrow.Author.Needs.{needs}
-use Rattle.validators.proofs.cru.fails.Statement.{statement}
-use Rattle.validators.proofs.cru.fails.Tie as tie
+use Rattle.sanity.proofs.cru.fails.Statement.{statement}
+use Rattle.sanity.proofs.cru.fails.Tie as tie
 
 dw-requires : tie.Need-dw-requires
 dw-requires c κs = search needs

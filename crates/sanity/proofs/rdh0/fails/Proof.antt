@@ -1,10 +1,10 @@
 -- The six tests; that of the FEE id is its own three.
 use mathlib.Core.Path.{sym}
-use Rattle.validators.specs.Tests.{rdh0Tests}
-use Rattle.validators.specs.TestsLaws.{any-of-6}
+use Rattle.sanity.specs.Tests.{rdh0Tests}
+use Rattle.sanity.specs.TestsLaws.{any-of-6}
 use borrow.Author.Needs.{needs}
-use Rattle.validators.proofs.rdh0.fails.Statement.{statement}
-use Rattle.validators.proofs.rdh0.fails.Tie as tie
+use Rattle.sanity.proofs.rdh0.fails.Statement.{statement}
+use Rattle.sanity.proofs.rdh0.fails.Tie as tie
 
 fails-requires : tie.Need-fails-requires
 fails-requires c κs = search needs

@@ -1,10 +1,10 @@
 -- The tests of the five parts, one list behind the other.
 use mathlib.Core.Path.{sym}
-use Rattle.validators.specs.Tests.{allTests}
-use Rattle.validators.specs.TestsLaws.{any-of-5-lists}
+use Rattle.sanity.specs.Tests.{allTests}
+use Rattle.sanity.specs.TestsLaws.{any-of-5-lists}
 use borrow.Author.Needs.{needs}
-use Rattle.validators.proofs.fails.Statement.{statement}
-use Rattle.validators.proofs.fails.Tie as tie
+use Rattle.sanity.proofs.fails.Statement.{statement}
+use Rattle.sanity.proofs.fails.Tie as tie
 
 fails-requires : tie.Need-fails-requires
 fails-requires c κs = search needs

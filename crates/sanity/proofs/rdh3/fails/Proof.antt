@@ -1,10 +1,10 @@
 -- The two tests as the detector field gives its reserved bits.
 use mathlib.Core.Path.{sym}
-use Rattle.validators.specs.Tests.{rdh3Tests}
-use Rattle.validators.specs.TestsLaws.{any-of-2}
+use Rattle.sanity.specs.Tests.{rdh3Tests}
+use Rattle.sanity.specs.TestsLaws.{any-of-2}
 use borrow.Author.Needs.{needs}
-use Rattle.validators.proofs.rdh3.fails.Statement.{statement}
-use Rattle.validators.proofs.rdh3.fails.Tie as tie
+use Rattle.sanity.proofs.rdh3.fails.Statement.{statement}
+use Rattle.sanity.proofs.rdh3.fails.Tie as tie
 
 reserved-bits-12-to-23-requires : tie.Need-reserved-bits-12-to-23-requires
 reserved-bits-12-to-23-requires c κs = search needs

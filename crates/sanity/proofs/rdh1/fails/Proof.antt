@@ -1,10 +1,10 @@
 -- The two tests as the header gives their numbers.
 use mathlib.Core.Path.{sym}
-use Rattle.validators.specs.Tests.{rdh1Tests}
-use Rattle.validators.specs.TestsLaws.{any-of-2}
+use Rattle.sanity.specs.Tests.{rdh1Tests}
+use Rattle.sanity.specs.TestsLaws.{any-of-2}
 use borrow.Author.Needs.{needs}
-use Rattle.validators.proofs.rdh1.fails.Statement.{statement}
-use Rattle.validators.proofs.rdh1.fails.Tie as tie
+use Rattle.sanity.proofs.rdh1.fails.Statement.{statement}
+use Rattle.sanity.proofs.rdh1.fails.Tie as tie
 
 reserved0-requires : tie.Need-reserved0-requires
 reserved0-requires c κs = search needs

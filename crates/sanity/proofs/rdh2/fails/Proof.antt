@@ -1,10 +1,10 @@
 -- The three tests, one by one.
 use mathlib.Core.Path.{sym}
-use Rattle.validators.specs.Tests.{rdh2Tests}
-use Rattle.validators.specs.TestsLaws.{any-of-3}
+use Rattle.sanity.specs.Tests.{rdh2Tests}
+use Rattle.sanity.specs.TestsLaws.{any-of-3}
 use borrow.Author.Needs.{needs}
-use Rattle.validators.proofs.rdh2.fails.Statement.{statement}
-use Rattle.validators.proofs.rdh2.fails.Tie as tie
+use Rattle.sanity.proofs.rdh2.fails.Statement.{statement}
+use Rattle.sanity.proofs.rdh2.fails.Tie as tie
 
 trigger-type-fails-requires : tie.Need-trigger-type-fails-requires
 trigger-type-fails-requires c κs = search needs

@@ -2,7 +2,7 @@
 use mathlib.Core.Bool.{Bool, true, false, not, _||_, or-assoc, or-false}
 use mathlib.Core.Path.{_≡_, refl, ap, sym, _∙_}
 use mathlib.Core.List.{List, [], _∷_, _++_}
-use Rattle.validators.specs.Tests.{Test, anyFails}
+use Rattle.sanity.specs.Tests.{Test, anyFails}
 
 pub any-of-2 : (a b : Test) → anyFails (a ∷ b ∷ []) ≡ (a .fails || b .fails)
 unfolding anyFails

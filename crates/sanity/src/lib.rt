@@ -1,0 +1,23 @@
+// Which tests a header fails: what the Rust's validators call a sanity check, without its text. A module for each word of the header.
+// Every function answers whether any of its tests fails, without a branch.
+ghost use mathlib.Core.Path.{_≡_};
+ghost use Rattle.sanity.specs.Tests.{allTests, anyFails};
+use rdh::rdh_cru::RdhCru;
+
+pub mod cru;
+pub mod fee_id;
+pub mod rdh0;
+pub mod rdh1;
+pub mod rdh2;
+pub mod rdh3;
+
+// Whether any test fails. No text is made.
+pub fn fails(expected: u8, its: bool, rdh: RdhCru) -> bool
+    ensures { λ r. ⌜ r ≡ anyFails (allTests expected its rdh) ⌝ }
+{
+    let rdh0 = rdh0::fails(expected, its, rdh.rdh0);
+    let rdh1 = rdh1::fails(rdh.rdh1);
+    let rdh2 = rdh2::fails(rdh.rdh2);
+    let rdh3 = rdh3::fails(rdh.rdh3);
+    rdh0 | rdh1 | rdh2 | rdh3 | cru::fails(rdh)
+}
