@@ -2,6 +2,7 @@
 -- trigger counts (bits 0 to 14 and 27 to 31) is the number of words with its bit, modulo 2^32").
 use mathlib.Core.List.{List, [], _∷_}
 use Prim.Native.Nat.{ℕ, _+_, _%_, _^_, _<_}
+use lib.ListN.{getD}
 use Rattle.basis.specs.Bits.{bits}
 use Rattle.trigger_stats.specs.declared.TriggerStats.{TriggerStats}
 
@@ -33,6 +34,10 @@ counters =
     ∷ tpc-rst
     ∷ tof
     ∷ []
+
+-- The counter at a place of the table, from 0 on.
+abbrev pub counterAt : ℕ → Counter
+counterAt place = getD counters place orbit
 
 -- The trigger bit that each one counts: "bits 0 to 14 and 27 to 31".
 unfoldable pub bitOf : Counter → ℕ

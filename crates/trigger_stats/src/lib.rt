@@ -1,6 +1,99 @@
 // Trigger statistics: how many trigger words had each trigger bit, a list of the counts, and a comparison of two statistics.
+use text::Written;
+ghost use mathlib.Core.List.{[], map};
 ghost use mathlib.Core.Path.{_≡_};
-ghost use Rattle.trigger_stats.specs.Counters.{counted, uncounted};
+ghost use Prim.Native.Nat.{_<_};
+ghost use lib.Dec.{eqb};
+ghost use Rattle.basis.specs.Pick.{pick};
+ghost use Rattle.text.specs.Ascii.{ascii};
+ghost use Rattle.text.specs.Put.{Put};
+ghost use Rattle.text.specs.Written.{Writes};
+ghost use Rattle.trigger_stats.specs.Counters.{count, counted, counterAt, counters, uncounted};
+ghost use Rattle.trigger_stats.specs.Lines.{inOrder};
+ghost use Rattle.trigger_stats.specs.Mismatches.{Compares, mismatchIfAny, mismatchOf, name};
+ghost use Rattle.trigger_stats.specs.TriggerList.{label, lineOf, listText};
+
+// The length of the longest list: a buffer of this length is never too short.
+const LONGEST_LIST: usize = 480;
+
+// The length of the longest comparison.
+const LONGEST_COMPARISON: usize = 1058;
+
+const COUNTERS: usize = 20;
+
+// What stands in front of each count in the list: a row of 12 bytes for each counter, in the order of the fields. (A row starts
+// with two blanks, and `\x20` is the first, since blanks at the start of a line would be skipped.)
+const LABEL_WIDTH: usize = 12;
+
+const LABELS: [u8; 240] = *b"\
+    \x20 Orbit:    \
+    \x20 HB:       \
+    \x20 HBr:      \
+    \x20 HC:       \
+    \x20 PhT:      \
+    \x20 PP:       \
+    \x20 CAL:      \
+    \x20 SOT:      \
+    \x20 EOT:      \
+    \x20 SOC:      \
+    \x20 EOC:      \
+    \x20 TF:       \
+    \x20 FE_rst:   \
+    \x20 RT:       \
+    \x20 RS:       \
+    \x20 LHC_gap1: \
+    \x20 LHC_gap2: \
+    \x20 TPC_sync: \
+    \x20 TPC_rst:  \
+    \x20 TOF:      ";
+
+// The fields' names: a row of 8 bytes for each, filled up with blanks, and how long they are without these.
+const NAME_WIDTH: usize = 8;
+
+const NAMES: [u8; 160] = *b"\
+    orbit   \
+    hb      \
+    hbr     \
+    hc      \
+    pht     \
+    pp      \
+    cal     \
+    sot     \
+    eot     \
+    soc     \
+    eoc     \
+    tf      \
+    fe_rst  \
+    rt      \
+    rs      \
+    lhc_gap1\
+    lhc_gap2\
+    tpc_sync\
+    tpc_rst \
+    tof     ";
+
+const NAME_LENGTHS: [usize; COUNTERS] = [
+    5,
+    2,
+    3,
+    2,
+    3,
+    2,
+    3,
+    3,
+    3,
+    3,
+    3,
+    2,
+    6,
+    2,
+    2,
+    8,
+    8,
+    8,
+    7,
+    3,
+];
 
 // The counts of the trigger bits, bit 0 first. Bits 15 to 26 are spare and have none.
 pub struct TriggerStats {
@@ -102,4 +195,129 @@ impl TriggerStats {
             tof: std::num::wrapping_add_u32(self.tof, trigger / 0x8000_0000 % 2),
         }
     }
+    // The list of all counts.
+    pub fn display(self, out: &mut [u8]) -> Written
+        ensures { λ r. ⌜ Writes (listText self) (now (out .entry)) r (now (out .exit)) ⌝ }
+    {
+        if LONGEST_LIST <= out.len() {
+            return Written::Text(self.put_list(out, 0));
+        }
+        let mut none = [0u8; 0];
+        let need = self.put_list(&mut none, 0);
+        if out.len() < need {
+            return Written::TooShort(need);
+        }
+        Written::Text(self.put_list(out, 0))
+    }
+
+    fn put_list(self, out: &mut [u8], at: usize) -> usize
+        ensures { λ r. ⌜ Put (now (out .entry)) at (listText self) (now (out .exit)) r ⌝ }
+    {
+        let counts = self.counts();
+        let mut next = text::put_bytes(out, at, b"Trigger statistics:\n");
+        let mut k = 0;
+        while k < COUNTERS {
+            next = put_line(out, next, k, counts[k]);
+            k += 1;
+        }
+        next
+    }
+
+    // A line for each count in which `self` differs from `other`, whose count is the expected one; no line where all are equal.
+    pub fn validate_other(self, other: TriggerStats, out: &mut [u8]) -> Written
+        ensures { λ r. ⌜ Compares self other (now (out .entry)) r (now (out .exit)) ⌝ }
+    {
+        if LONGEST_COMPARISON <= out.len() {
+            return Written::Text(self.put_mismatches(other, out, 0));
+        }
+        let mut none = [0u8; 0];
+        let need = self.put_mismatches(other, &mut none, 0);
+        if out.len() < need {
+            return Written::TooShort(need);
+        }
+        Written::Text(self.put_mismatches(other, out, 0))
+    }
+
+    fn put_mismatches(self, other: TriggerStats, out: &mut [u8], at: usize) -> usize
+        ensures { λ r. ⌜ Put (now (out .entry)) at (inOrder (mismatchIfAny self other) counters) (now (out .exit)) r ⌝ }
+    {
+        let got = self.counts();
+        let expected = other.counts();
+        let mut next = at;
+        let mut k = 0;
+        while k < COUNTERS {
+            next = put_mismatch(out, next, k, expected[k], got[k]);
+            k += 1;
+        }
+        next
+    }
+
+    // The counts in the order of the fields.
+    fn counts(self) -> [u32; COUNTERS]
+        ensures { λ r. ⌜ r ≡ map (λ k. count k self) counters ⌝ }
+    {
+        [
+            self.orbit,
+            self.hb,
+            self.hbr,
+            self.hc,
+            self.pht,
+            self.pp,
+            self.cal,
+            self.sot,
+            self.eot,
+            self.soc,
+            self.eoc,
+            self.tf,
+            self.fe_rst,
+            self.rt,
+            self.rs,
+            self.lhc_gap1,
+            self.lhc_gap2,
+            self.tpc_sync,
+            self.tpc_rst,
+            self.tof,
+        ]
+    }
+}
+
+// The line of counter `k` in the list.
+fn put_line(out: &mut [u8], at: usize, k: usize, n: u32) -> usize
+    requires { ⌜ k < 20 ⌝ }
+    ensures { λ r. ⌜ Put (now (out .entry)) at (lineOf (ascii (label (counterAt k))) n) (now (out .exit)) r ⌝ }
+{
+    let labels = LABELS;
+    let start = LABEL_WIDTH * k;
+    let end = start + LABEL_WIDTH;
+    let at = text::put_bytes(out, at, &labels[start..end]);
+    let at = text::put_decimal_right(out, at, n as u64, 6);
+    text::put_byte(out, at, b'\n')
+}
+
+// The line of counter `k` in a comparison, or nothing where the two counts are equal.
+fn put_mismatch(out: &mut [u8], at: usize, k: usize, expected: u32, got: u32) -> usize
+    requires { ⌜ k < 20 ⌝ }
+    ensures { λ r. ⌜ Put (now (out .entry)) at (pick (eqb got expected) [] (mismatchOf (ascii (name (counterAt k))) expected got)) (now (out .exit)) r ⌝ }
+{
+    if got == expected {
+        return at;
+    }
+    let at = put_name(out, at, k);
+    let at = text::put_bytes(out, at, b" mismatch! expected: ");
+    let at = text::put_decimal(out, at, expected as u64);
+    let at = text::put_bytes(out, at, b", got: ");
+    let at = text::put_decimal(out, at, got as u64);
+    text::put_byte(out, at, b'\n')
+}
+
+// The name of counter `k`, without the blanks that fill it up.
+fn put_name(out: &mut [u8], at: usize, k: usize) -> usize
+    requires { ⌜ k < 20 ⌝ }
+    ensures { λ r. ⌜ Put (now (out .entry)) at (ascii (name (counterAt k))) (now (out .exit)) r ⌝ }
+{
+    let names = NAMES;
+    let lengths = NAME_LENGTHS;
+    let start = NAME_WIDTH * k;
+    let end = start + lengths[k];
+    text::put_bytes(out, at, &names[start..end])
 }
