@@ -52,23 +52,23 @@ mismatch self other k = mismatchOf (ascii (name k)) (count k other) (count k sel
 unfoldable pub mismatchText : TriggerStats → TriggerStats → List Counter → List ℕ
 mismatchText self other order = inOrder (mismatch self other) order
 
--- A counter's line, or nothing where its counts are equal.
-unfoldable pub mismatchIfAny : TriggerStats → TriggerStats → Counter → List ℕ
-mismatchIfAny self other k = pick (eqb (count k self) (count k other)) [] (mismatch self other k)
-
--- How often a counter is listed. Each counter is known by its bit.
+-- How often a counter is listed. A counter is known by its bit: no two count the same one.
 unfoldable pub occurrences : Counter → List Counter → ℕ
 occurrences k [] = 0
 occurrences k (j ∷ js) = pick (eqb (bitOf k) (bitOf j)) 1 0 + occurrences k js
 
 -- Every counter whose counts differ is listed once, and no other is listed.
-abbrev pub Differing : TriggerStats → TriggerStats → List Counter → Type 0
-Differing self other order = (k : Counter) → occurrences k order ≡ pick (eqb (count k self) (count k other)) 0 1
+abbrev pub DifferingOnce : TriggerStats → TriggerStats → List Counter → Type 0
+DifferingOnce self other order = (k : Counter) → occurrences k order ≡ pick (eqb (count k self) (count k other)) 0 1
 
--- The contract of a comparison: `r` is its reply and `m` what it leaves in the buffer `l`. The ORDER OF THE LINES IS LEFT FREE: it is
--- some order of the counters whose counts differ. All else is fixed by it: the text is their lines in that order, and the reply and
--- what is left in the buffer are those of a text.
+-- The contract of a comparison: `r` is its reply and `m` what it leaves in the buffer `l`. THE ORDER OF THE LINES IS LEFT FREE: of
+-- `order` it is said only which counters it lists, and that each is listed once. The text is the lines in that order, and it is
+-- answered for and written as any text is; the reply is the same in every order (`same-reply`).
 pub record Compares (self other : TriggerStats) (l : List ℕ) (r : Written) (m : List ℕ) : Type 0 where
   pub order : List Counter
-  pub listed : Differing self other order
+  pub listed : DifferingOnce self other order
   pub writes : Writes (mismatchText self other order) l r m
+
+-- What the functions that write the text put for a counter: its line, or nothing where its counts are equal.
+unfoldable pub mismatchIfAny : TriggerStats → TriggerStats → Counter → List ℕ
+mismatchIfAny self other k = pick (eqb (count k self) (count k other)) [] (mismatch self other k)

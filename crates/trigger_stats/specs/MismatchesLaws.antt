@@ -6,13 +6,15 @@ use mathlib.Core.List.{List, [], _∷_, _++_}
 use native.Mathlib.Nat.{add-mul}
 use native.Mathlib.Omega.{arith}
 use borrow.Author.Tests.{eq-eqb, eqb-true, eqb-false}
-use lib.Dec.{eqb, ltb}
+use lib.Dec.{eqb, leb, ltb}
+use lib.IntN.{pos}
 use lib.ListN.{getD, length, length-append}
 use Rattle.basis.specs.Pick.{pick, on}
+use Rattle.basis.specs.Refusals.Answer.{gives, refuses}
 use Rattle.text.specs.declared.Written.{Written}
 use Rattle.text.specs.Ascii.{ascii}
 use Rattle.text.specs.Numerals.{decimal}
-use Rattle.text.specs.Written.{Writes}
+use Rattle.text.specs.Written.{Writes, answer, written}
 use Rattle.trigger_stats.specs.declared.TriggerStats.{TriggerStats}
 use Rattle.trigger_stats.specs.Counters.{Counter, Fits, bitOf, count, counters}
 use Rattle.trigger_stats.specs.Counters.{orbit, hb, hbr, hc, pht, pp, cal, sot, eot, soc, eoc, tf, fe-rst, rt, rs}
@@ -20,7 +22,7 @@ use Rattle.trigger_stats.specs.Counters.{lhc-gap1, lhc-gap2, tpc-sync, t
 use Rattle.trigger_stats.specs.Lines.{inOrder}
 use Rattle.trigger_stats.specs.LinesLaws.{total, total-add, total-below, total-same, length-in-order}
 use Rattle.trigger_stats.specs.TriggerListLaws.{length-decimal}
-use Rattle.trigger_stats.specs.Mismatches.{Compares, Differing, mismatch, mismatchIfAny, mismatchOf, mismatchText, name, occurrences}
+use Rattle.trigger_stats.specs.Mismatches.{Compares, DifferingOnce, mismatch, mismatchIfAny, mismatchOf, mismatchText, name, occurrences}
 
 -- ---- counters are told apart by their bits
 
@@ -113,7 +115,7 @@ module _ (self other : TriggerStats) where
   abbrev equal : Counter → Bool
   equal k = eqb (count k self) (count k other)
 
-  total-differing : (n : Counter → ℕ) (order : List Counter) → Differing self other order
+  total-differing : (n : Counter → ℕ) (order : List Counter) → DifferingOnce self other order
       → total n order ≡ total (λ k. unless (equal k) (n k)) counters
   total-differing n order listed =
       by-occurrences n counters (λ k. in-table k .1) order
@@ -124,11 +126,20 @@ module _ (self other : TriggerStats) where
       go false x = omega arith
 
   -- the text has the same length in each of them
-  pub length-mismatches : (order : List Counter) → Differing self other order
+  pub length-mismatches : (order : List Counter) → DifferingOnce self other order
       → length (mismatchText self other order) ≡ total (λ k. unless (equal k) (length (mismatch self other k))) counters
   unfolding mismatchText
   length-mismatches order listed =
       length-in-order (mismatch self other) order ∙ total-differing (λ k. length (mismatch self other k)) order listed
+
+  -- so the order makes no difference to the reply
+  pub same-reply : {l m m′ : List ℕ} {r r′ : Written} → Compares self other l r m → Compares self other l r′ m′ → answer r ≡ answer r′
+  unfolding written
+  same-reply {l} c d =
+      let long = length-mismatches (c .order) (c .listed) ∙ sym (length-mismatches (d .order) (d .listed)) in
+      c .writes .reply
+      ∙ ap (λ (n : ℕ). pick (leb n (length l)) (gives n) (refuses 7 (pos n ∷ []))) long
+      ∙ sym (d .writes .reply)
 
   length-mismatch : Fits self → Fits other → (k : Counter) → length (mismatch self other k) ≤ length (ascii (name k)) + 49
   unfolding mismatch mismatchOf
@@ -138,7 +149,7 @@ module _ (self other : TriggerStats) where
       simp length-append (omega arith)
 
   -- the longest comparison: 20 names of 78 bytes together, each with 49 bytes behind it
-  pub longest-comparison : Fits self → Fits other → (order : List Counter) → Differing self other order
+  pub longest-comparison : Fits self → Fits other → (order : List Counter) → DifferingOnce self other order
       → length (mismatchText self other order) ≤ 1058
   unfolding total name
   longest-comparison fits fits-other order listed =
@@ -216,7 +227,7 @@ module _ (self other : TriggerStats) where
       sum false x y = refl
 
   -- the order of the table is one that the contract allows
-  pub listed-differing : Differing self other (differing counters)
+  pub listed-differing : DifferingOnce self other (differing counters)
   listed-differing k = occurrences-differing k counters ∙ ap (λ (x : ℕ). unless (equal self other k) x) (in-table k .1)
 
   -- so whoever writes the lines in the order of the table compares

@@ -16,13 +16,13 @@ ghost use Rattle.trigger_stats.specs.TriggerList.{label, lineOf, listTex
 // The length of the longest list: a buffer of this length is never too short.
 const LONGEST_LIST: usize = 480;
 
-// The length of the longest comparison.
+// The length of the longest comparison, with ten digits in every number.
 const LONGEST_COMPARISON: usize = 1058;
 
+// How many counters there are. The tables below have a row for each, in the order of the fields.
 const COUNTERS: usize = 20;
 
-// What stands in front of each count in the list: a row of 12 bytes for each counter, in the order of the fields. (A row starts
-// with two blanks, and `\x20` is the first, since blanks at the start of a line would be skipped.)
+// What stands in front of each count in the list. (`\x20` is a blank: one at the start of a line would be skipped.)
 const LABEL_WIDTH: usize = 12;
 
 const LABELS: [u8; 240] = *b"\
@@ -47,7 +47,7 @@ const LABELS: [u8; 240] = *b"\
     \x20 TPC_rst:  \
     \x20 TOF:      ";
 
-// The fields' names: a row of 8 bytes for each, filled up with blanks, and how long they are without these.
+// The fields' names, filled up with blanks, and how long they are without these.
 const NAME_WIDTH: usize = 8;
 
 const NAMES: [u8; 160] = *b"\
@@ -195,7 +195,8 @@ impl TriggerStats {
             tof: std::num::wrapping_add_u32(self.tof, trigger / 0x8000_0000 % 2),
         }
     }
-    // The list of all counts.
+
+    // Writes the list of all counts at the start of `out`. Where the buffer may be too short, the list is measured first.
     pub fn display(self, out: &mut [u8]) -> Written
         ensures { λ r. ⌜ Writes (listText self) (now (out .entry)) r (now (out .exit)) ⌝ }
     {
@@ -223,7 +224,8 @@ impl TriggerStats {
         next
     }
 
-    // A line for each count in which `self` differs from `other`, whose count is the expected one; no line where all are equal.
+    // Writes a line for each count that differs from that of `other`, which is the expected one. Equal statistics give the empty
+    // text, which fits any buffer.
     pub fn validate_other(self, other: TriggerStats, out: &mut [u8]) -> Written
         ensures { λ r. ⌜ Compares self other (now (out .entry)) r (now (out .exit)) ⌝ }
     {
