@@ -35,7 +35,7 @@ counters =
     ∷ tof
     ∷ []
 
--- The counter at a place of the table, from 0 on.
+-- The counter at a place of the table, from 0 to 19.
 abbrev pub counterAt : ℕ → Counter
 counterAt place = getD counters place orbit
 

@@ -204,9 +204,9 @@ impl TriggerStats {
             return Written::Text(self.put_list(out, 0));
         }
         let mut none = [0u8; 0];
-        let need = self.put_list(&mut none, 0);
-        if out.len() < need {
-            return Written::TooShort(need);
+        let length = self.put_list(&mut none, 0);
+        if out.len() < length {
+            return Written::TooShort(length);
         }
         Written::Text(self.put_list(out, 0))
     }
@@ -246,10 +246,10 @@ impl TriggerStats {
         let got = self.counts();
         let expected = other.counts();
         let mut next = at;
-        let mut k = 0;
-        while k < COUNTERS {
-            next = put_mismatch(out, next, k, expected[k], got[k]);
-            k += 1;
+        let mut field = 0;
+        while field < COUNTERS {
+            next = put_mismatch(out, next, field, expected[field], got[field]);
+            field += 1;
         }
         next
     }
@@ -291,9 +291,9 @@ fn put_line(out: &mut [u8], at: usize, k: usize, n: u32) -> usize
     let labels = LABELS;
     let start = LABEL_WIDTH * k;
     let end = start + LABEL_WIDTH;
-    let at = text::put_bytes(out, at, &labels[start..end]);
-    let at = text::put_decimal_right(out, at, n as u64, 6);
-    text::put_byte(out, at, b'\n')
+    let next = text::put_bytes(out, at, &labels[start..end]);
+    let next = text::put_decimal_right(out, next, n as u64, 6);
+    text::put_byte(out, next, b'\n')
 }
 
 // The line of counter `k` in a comparison, or nothing where the two counts are equal.

@@ -149,18 +149,22 @@ fn list_shown(s: TriggerStats, length: usize) {
     }
 }
 
+fn alike_listed(n: u32, length: usize) {
+    list_shown(alike(n), length);
+}
+
 fn lists_shown() {
     show::text(b"the list of the narrowest counts\n");
-    list_shown(alike(0), 0);
-    list_shown(alike(0), 399);
-    list_shown(alike(0), 400);
-    list_shown(alike(999999), 405);
+    alike_listed(0, 0);
+    alike_listed(0, 399);
+    alike_listed(0, 400);
+    alike_listed(999999, 405);
     show::text(b"the list of the widest counts\n");
-    list_shown(alike(1000000), 419);
-    list_shown(alike(1000000), 420);
-    list_shown(alike(0xffff_ffff), 479);
-    list_shown(alike(0xffff_ffff), 480);
-    list_shown(alike(0xffff_ffff), 485);
+    alike_listed(1000000, 419);
+    alike_listed(1000000, 420);
+    alike_listed(0xffff_ffff, 479);
+    alike_listed(0xffff_ffff, 480);
+    alike_listed(0xffff_ffff, 485);
     show::text(b"the list of counts of one to ten digits\n");
     list_shown(ordinary(), 500);
 }
@@ -178,10 +182,20 @@ fn comparison_shown(s: TriggerStats, other: TriggerStats, length: usize) {
     }
 }
 
-// A word with one bit counted, and then compared with no word. A spare bit counts nothing, so there is no difference.
+// Counts that are all `n`, with one word more, compared with those without it.
+fn word_compared(n: u32, word: u32, length: usize) {
+    comparison_shown(alike(n).collect_stats(word), alike(n), length);
+}
+
+// Counts that are all `n` compared with counts that are all `m`.
+fn alike_compared(n: u32, m: u32, length: usize) {
+    comparison_shown(alike(n), alike(m), length);
+}
+
+// A word with one bit counted, and compared with no word. A spare bit counts nothing, so there is no difference.
 fn bit_shown(word: u32) {
     word_shown(0, word);
-    comparison_shown(alike(0).collect_stats(word), alike(0), 44);
+    word_compared(0, word, 44);
 }
 
 fn each_bit_shown() {
@@ -193,29 +207,33 @@ fn each_bit_shown() {
     }
 }
 
-fn comparisons_shown() {
+fn short_comparisons_shown() {
     show::text(b"equal statistics\n");
-    comparison_shown(alike(0), alike(0), 0);
+    alike_compared(0, 0, 0);
     comparison_shown(ordinary(), ordinary(), 3);
     show::text(b"expected is the other's count\n");
-    comparison_shown(alike(7).collect_stats(0x8), alike(7), 36);
+    word_compared(7, 0x8, 36);
     comparison_shown(alike(7), alike(7).collect_stats(0x8), 36);
     show::text(b"a byte short, just long enough, longer\n");
-    comparison_shown(alike(9).collect_stats(0x1000), alike(9), 37);
-    comparison_shown(alike(9).collect_stats(0x1000), alike(9), 38);
-    comparison_shown(alike(9).collect_stats(0x1000), alike(9), 39);
-    comparison_shown(alike(9).collect_stats(0x1000), alike(9), 0);
+    word_compared(9, 0x1000, 37);
+    word_compared(9, 0x1000, 38);
+    word_compared(9, 0x1000, 39);
+    word_compared(9, 0x1000, 0);
+}
+
+fn long_comparisons_shown() {
     show::text(b"all counts differ\n");
     comparison_shown(ordinary(), alike(1), 800);
     show::text(b"the longest comparison\n");
-    comparison_shown(alike(0xffff_ffff), alike(0xffff_fffe), 1057);
-    comparison_shown(alike(0xffff_ffff), alike(0xffff_fffe), 1058);
-    comparison_shown(alike(0xffff_fffe), alike(0xffff_ffff), 1063);
+    alike_compared(0xffff_ffff, 0xffff_fffe, 1057);
+    alike_compared(0xffff_ffff, 0xffff_fffe, 1058);
+    alike_compared(0xffff_fffe, 0xffff_ffff, 1063);
 }
 
 fn main() {
     words_shown();
     lists_shown();
     each_bit_shown();
-    comparisons_shown();
+    short_comparisons_shown();
+    long_comparisons_shown();
 }

@@ -45,8 +45,8 @@ mul-put-mismatch-2 c = omega arith
 array-read-put-mismatch-2 : tie.Need-array-read-put-mismatch-2 Inv-loop μ-loop
 array-read-put-mismatch-2 c = omega arith
 
-add-k : tie.Need-add-k Inv-loop μ-loop
-add-k c = omega arith
+add-field : tie.Need-add-field Inv-loop μ-loop
+add-field c = omega arith
 
 loop-less : tie.Need-loop-less Inv-loop μ-loop
 loop-less c = omega arith
@@ -55,7 +55,7 @@ loop-again : tie.Need-loop-again Inv-loop μ-loop
 unfolding mismatch mismatchIfAny
 loop-again c =
     let turn = c .before .before .before .before .before in
-    let k = turn .loop .k in (
+    let k = turn .loop .field in (
       omega arith,
       λ s o e f.
           next-one (mismatchIfAny s o) k (omega arith) (turn .loop .inv .1 s o e f)
@@ -71,7 +71,7 @@ returns c =
     let others = c .before .before in
     let own = others .before in
     let args = own .before .before .args in
-    respelled (ap (λ ks. inOrder (mismatchIfAny (args .self) (args .other)) ks) (take-all (c .before .loop .k) counters (c .loop-test .left)))
+    respelled (ap (λ ks. inOrder (mismatchIfAny (args .self) (args .other)) ks) (take-all (c .before .loop .field) counters (c .loop-test .left)))
     (c .before .loop .inv .1 (args .self) (args .other) (own .counts .ensures) (others .counts2 .ensures))
 
 pub put-mismatches-spec : {M : Type 1} → statement M
@@ -88,7 +88,7 @@ put-mismatches-spec =
     mul-put-mismatch-2
     array-read-put-mismatch-2
     (λ c κs. c .before .loop-test .taken)
-    add-k
+    add-field
     loop-less
     loop-again
     (λ c. kept-length (returns c))
