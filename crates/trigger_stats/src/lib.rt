@@ -288,10 +288,9 @@ fn put_line(out: &mut [u8], at: usize, k: usize, n: u32) -> usize
     requires { ⌜ k < 20 ⌝ }
     ensures { λ r. ⌜ Put (now (out .entry)) at (lineOf (ascii (label (counterAt k))) n) (now (out .exit)) r ⌝ }
 {
-    let labels = LABELS;
     let start = LABEL_WIDTH * k;
     let end = start + LABEL_WIDTH;
-    let next = text::put_bytes(out, at, &labels[start..end]);
+    let next = text::put_bytes(out, at, &LABELS[start..end]);
     let next = text::put_decimal_right(out, next, n as u64, 6);
     text::put_byte(out, next, b'\n')
 }
@@ -317,9 +316,7 @@ fn put_name(out: &mut [u8], at: usize, k: usize) -> usize
     requires { ⌜ k < 20 ⌝ }
     ensures { λ r. ⌜ Put (now (out .entry)) at (ascii (name (counterAt k))) (now (out .exit)) r ⌝ }
 {
-    let names = NAMES;
-    let lengths = NAME_LENGTHS;
     let start = NAME_WIDTH * k;
-    let end = start + lengths[k];
-    text::put_bytes(out, at, &names[start..end])
+    let end = start + NAME_LENGTHS[k];
+    text::put_bytes(out, at, &NAMES[start..end])
 }
