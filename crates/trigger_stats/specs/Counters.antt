@@ -130,5 +130,5 @@ withBit bit [] = 0
 withBit bit (word ∷ words) = bits bit bit word + withBit bit words
 
 -- Every count is a number of 32 bits, as in each value of the code.
-abbrev pub Fits : TriggerStats → Type 0
-Fits s = (k : Counter) → count k s < 2 ^ 32
+abbrev pub InRange : TriggerStats → Type 0
+InRange s = (k : Counter) → count k s < 2 ^ 32

@@ -16,7 +16,7 @@ use Rattle.text.specs.Ascii.{ascii}
 use Rattle.text.specs.Numerals.{decimal}
 use Rattle.text.specs.Written.{Writes, answer, written}
 use Rattle.trigger_stats.specs.declared.TriggerStats.{TriggerStats}
-use Rattle.trigger_stats.specs.Counters.{Counter, Fits, bitOf, count, counters}
+use Rattle.trigger_stats.specs.Counters.{Counter, InRange, bitOf, count, counters}
 use Rattle.trigger_stats.specs.Counters.{orbit, hb, hbr, hc, pht, pp, cal, sot, eot, soc, eoc, tf, fe-rst, rt, rs}
 use Rattle.trigger_stats.specs.Counters.{lhc-gap1, lhc-gap2, tpc-sync, tpc-rst, tof}
 use Rattle.trigger_stats.specs.Lines.{inOrder}
@@ -141,7 +141,7 @@ module _ (self other : TriggerStats) where
       ∙ ap (λ (n : ℕ). pick (leb n (length l)) (gives n) (refuses 7 (pos n ∷ []))) long
       ∙ sym (d .writes .reply)
 
-  length-mismatch : Fits self → Fits other → (k : Counter) → length (mismatch self other k) ≤ length (ascii (name k)) + 49
+  length-mismatch : InRange self → InRange other → (k : Counter) → length (mismatch self other k) ≤ length (ascii (name k)) + 49
   unfolding mismatch mismatchOf
   length-mismatch fits fits-other k =
       let got = length-decimal (count k self) (fits k) in
@@ -149,7 +149,7 @@ module _ (self other : TriggerStats) where
       simp length-append (omega arith)
 
   -- the longest comparison: 20 names of 78 bytes together, each with 49 bytes behind it
-  pub longest-comparison : Fits self → Fits other → (order : List Counter) → DifferingOnce self other order
+  pub longest-comparison : InRange self → InRange other → (order : List Counter) → DifferingOnce self other order
       → length (mismatchText self other order) ≤ 1058
   unfolding total name
   longest-comparison fits fits-other order listed =

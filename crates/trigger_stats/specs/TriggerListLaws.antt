@@ -8,7 +8,7 @@ use Rattle.text.specs.Ascii.{ascii}
 use Rattle.text.specs.Numerals.{decimal, numeral, right}
 use Rattle.text.specs.NumeralLaws.{length-numeral}
 use Rattle.trigger_stats.specs.declared.TriggerStats.{TriggerStats}
-use Rattle.trigger_stats.specs.Counters.{Counter, Fits, count, counters}
+use Rattle.trigger_stats.specs.Counters.{Counter, InRange, count, counters}
 use Rattle.trigger_stats.specs.Lines.{inOrder}
 use Rattle.trigger_stats.specs.LinesLaws.{total, total-below, length-in-order}
 use Rattle.trigger_stats.specs.TriggerList.{label, line, lineOf, listText}
@@ -22,7 +22,7 @@ length-right : (width : ℕ) (t : List ℕ) → length (right width t) ≡ max w
 unfolding right
 length-right width t = omega (arith, length-append (replicate (width - length t) 32) t, length-replicate {A = ℕ} (width - length t) 32)
 
-length-line : (s : TriggerStats) → Fits s → (k : Counter) → length (line s k) ≤ length (ascii (label k)) + 11
+length-line : (s : TriggerStats) → InRange s → (k : Counter) → length (line s k) ≤ length (ascii (label k)) + 11
 unfolding line lineOf
 length-line s fits k =
     let digits = length-decimal (count k s) (fits k) in
@@ -30,7 +30,7 @@ length-line s fits k =
     simp length-append (omega arith)
 
 -- the longest list: 20 lines of 23 bytes below the title
-pub longest-list : (s : TriggerStats) → Fits s → length (listText s) ≤ 480
+pub longest-list : (s : TriggerStats) → InRange s → length (listText s) ≤ 480
 unfolding listText total label
 longest-list s fits =
     let lines = total-below (λ k. length (line s k)) (λ k. length (ascii (label k)) + 11) (length-line s fits) counters in

@@ -5,14 +5,14 @@ use native.Mathlib.Omega.{arith}
 use Rattle.text.specs.PutLaws.{measured}
 use Rattle.text.specs.PutLaws.{same-length as kept-length}
 use Rattle.text.specs.WrittenLaws.{fitting, too-short}
-use Rattle.trigger_stats.specs.Counters.{Counter, Fits, count}
+use Rattle.trigger_stats.specs.Counters.{Counter, InRange, count}
 use Rattle.trigger_stats.specs.Counters.{orbit, hb, hbr, hc, pht, pp, cal, sot, eot, soc, eoc, tf, fe-rst, rt, rs}
 use Rattle.trigger_stats.specs.Counters.{lhc-gap1, lhc-gap2, tpc-sync, tpc-rst, tof}
 use Rattle.trigger_stats.specs.TriggerListLaws.{longest-list}
 use Rattle.trigger_stats.proofs.TriggerStats.display.Statement.{statement}
 use Rattle.trigger_stats.proofs.TriggerStats.display.Tie as tie
 
-fits : (c : tie.Start) → Fits (c .args .self)
+fits : (c : tie.Start) → InRange (c .args .self)
 unfolding count
 fits c orbit = omega arith
 fits c hb = omega arith
