@@ -61,7 +61,7 @@ occurrences k (j ∷ js) = pick (eqb (bitOf k) (bitOf j)) 1 0 + occurrences k js
 abbrev pub DifferingOnce : TriggerStats → TriggerStats → List Counter → Type 0
 DifferingOnce self other order = (k : Counter) → occurrences k order ≡ pick (eqb (count k self) (count k other)) 0 1
 
--- The contract of a comparison: `r` is its reply and `m` what it leaves in the buffer `l`. THE ORDER OF THE LINES IS LEFT FREE: of
+-- The contract of a comparison: `r` is its reply and `m` what it leaves in the buffer `l`. The order of the lines is left free: of
 -- `order` it is said only which counters it lists, and that each is listed once. The text is the lines in that order, and it is
 -- answered for and written as any text is; the reply is the same in every order (`same-reply`).
 pub record Compares (self other : TriggerStats) (l : List ℕ) (r : Written) (m : List ℕ) : Type 0 where
