@@ -1,5 +1,1 @@
 pub mod Subfields
-pub mod Layout
-pub mod LayoutLaws
-pub mod Refusals
-pub mod Words

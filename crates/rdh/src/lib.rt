@@ -1,6 +1,4 @@
-// The 64-byte raw data header (RDH) of the ALICE readout: its fields, its way from and to bytes, and equality by bytes.
-// A module for each word of the header, as in the Rust.
-mod little_endian;
+// The 64-byte raw data header (RDH) of the ALICE readout: its fields. A module for each word of the header, as in the Rust.
 pub mod rdh0;
 pub mod rdh1;
 pub mod rdh2;

@@ -1,44 +1,8 @@
 // The header's fifth word, RDH2: bytes 32 to 39.
-ghost use mathlib.Core.Path.{_≡_};
-ghost use mathlib.Core.List.{_++_};
-ghost use Prim.Native.Nat.{_≤_};
-ghost use lib.ListN.{length};
-ghost use Rattle.basis.specs.Bytes.{bytesOf};
-ghost use Rattle.rdh.specs.Layout.{decoded};
-use crate::little_endian::join_u8;
-use crate::little_endian::join_u16;
-use crate::little_endian::join_u32;
-use crate::little_endian::read_u16;
-use crate::little_endian::read_u32;
 
 pub struct Rdh2 {
     pub trigger_type: u32,
     pub pages_counter: u16,
     pub stop_bit: u8,
     pub reserved0: u8,
-}
-
-impl Rdh2 {
-    // The fifth word of the header that starts where `buf` does.
-    pub(crate) fn from_buf(buf: &[u8]) -> Rdh2
-        requires { ⌜ 64 ≤ length (now buf) ⌝ }
-        ensures { λ r. ⌜ r ≡ decoded (now (buf .entry)) .rdh2 ⌝ }
-    {
-        Rdh2 {
-            trigger_type: read_u32(buf, 32),
-            pages_counter: read_u16(buf, 36),
-            stop_bit: buf[38],
-            reserved0: buf[39],
-        }
-    }
-
-    // The word as one number, its first byte lowest.
-    pub(crate) fn word(self) -> u64
-        ensures { λ r. ⌜ bytesOf 8 r
-            ≡ bytesOf 4 (self .«trigger_type»)
-            ++ (bytesOf 2 (self .«pages_counter») ++ (bytesOf 1 (self .«stop_bit») ++ bytesOf 1 (self .reserved0))) ⌝ }
-    {
-        let second = join_u16(self.pages_counter, join_u8(self.stop_bit, self.reserved0));
-        join_u32(self.trigger_type, second)
-    }
 }

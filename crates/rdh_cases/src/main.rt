@@ -2,9 +2,9 @@
 mod make;
 mod print;
 
-use rdh::rdh_cru::FromBuf;
 use rdh::rdh_cru::RdhCru;
-use rdh::rdh_cru::ToByteSlice;
+use serde_rdh::FromBuf;
+use serde_rdh::ToByteSlice;
 
 fn main() {
     each_field();
@@ -41,9 +41,9 @@ fn there_and_back(k: usize, v: u64, said: &[u8]) {
     bytes(h);
     show::text(b" back");
     let mut out = [0u8; 64];
-    h.to_byte_slice(&mut out);
-    match RdhCru::from_buf(&out) {
-        FromBuf::Rdh(back) => answer(back.eq(h)),
+    serde_rdh::to_byte_slice(h, &mut out);
+    match serde_rdh::from_buf(&out) {
+        FromBuf::Rdh(back) => answer(serde_rdh::eq(back, h)),
         FromBuf::TooShort => show::text(b" refused"),
     }
     show::end();
@@ -55,17 +55,17 @@ fn beside(k: usize) {
     let b = make::header(k, 0x5B, 0x5A5A_5A5A_5A5A_5A5A);
     print::label(k);
     show::text(b"differs: equal");
-    answer(a.eq(b));
-    answer(b.eq(a));
+    answer(serde_rdh::eq(a, b));
+    answer(serde_rdh::eq(b, a));
     show::text(b", itself: equal");
-    answer(a.eq(a));
-    answer(b.eq(b));
+    answer(serde_rdh::eq(a, a));
+    answer(serde_rdh::eq(b, b));
     show::end();
 }
 
 fn bytes(h: RdhCru) {
     let mut out = [0u8; 64];
-    h.to_byte_slice(&mut out);
+    serde_rdh::to_byte_slice(h, &mut out);
     show::bytes(&out);
 }
 
@@ -80,7 +80,7 @@ fn answer(yes: bool) {
 // The header of 64 bytes of which the first is `first` and each is `step` more than the one before.
 fn whole(first: u8, step: u8) {
     let buf = make::bytes(first, step);
-    match RdhCru::from_buf(&buf) {
+    match serde_rdh::from_buf(&buf) {
         FromBuf::Rdh(h) => print::fields(h),
         FromBuf::TooShort => show::text(b"refused\n"),
     }
@@ -102,7 +102,7 @@ fn decode_first(n: usize) {
     show::number(n as u64);
     if n <= buf.len() {
         let a = 0;
-        match RdhCru::from_buf(&buf[a..n]) {
+        match serde_rdh::from_buf(&buf[a..n]) {
             FromBuf::Rdh(h) => bytes(h),
             FromBuf::TooShort => show::text(b" refused"),
         }
@@ -132,7 +132,7 @@ fn encode_into(n: usize) {
 fn encode_first(out: &mut [u8], n: usize) {
     if n <= out.len() {
         let a = 0;
-        match make::header(make::FIELDS, 0, u64::MAX).to_byte_slice(&mut out[a..n]) {
+        match serde_rdh::to_byte_slice(make::header(make::FIELDS, 0, u64::MAX), &mut out[a..n]) {
             ToByteSlice::Written => show::text(b" written"),
             ToByteSlice::TooShort => show::text(b" refused"),
         }

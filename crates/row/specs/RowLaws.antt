@@ -4,8 +4,8 @@ use mathlib.Core.Path.{_≡_}
 use native.Mathlib.Omega.{arith}
 use lib.ListN.{length, length-append}
 use Rattle.rdh.specs.declared.rdh_cru.RdhCru.{RdhCru}
-use Rattle.rdh.specs.Layout.{InRange, Field, span, value}
-use Rattle.rdh.specs.Layout.Field.{header-id, header-size, fee-id, system-id, offset-new-packet, link-id, packet-counter, bc-reserved0, orbit, dataformat-reserved0, trigger-type, pages-counter, stop-bit, detector-field}
+use Rattle.serde_rdh.specs.Layout.{InRange, Field, span, value}
+use Rattle.serde_rdh.specs.Layout.Field.{header-id, header-size, fee-id, system-id, offset-new-packet, link-id, packet-counter, bc-reserved0, orbit, dataformat-reserved0, trigger-type, pages-counter, stop-bit, detector-field}
 use Rattle.rdh.specs.Subfields.{bcOf, dataFormatOf}
 use Rattle.text.specs.Ascii.{ascii}
 use Rattle.text.specs.Numerals.{decimal, hex, left}

@@ -1,7 +1,6 @@
 // Rows of headers into buffers of many lengths. Each line has the reply and then the buffer, which held dots before, between
 // brackets.
-use rdh::rdh_cru::FromBuf;
-use rdh::rdh_cru::RdhCru;
+use serde_rdh::FromBuf;
 use text::Written;
 
 fn shown(r: Written, out: &[u8]) {
@@ -21,7 +20,7 @@ fn shown(r: Written, out: &[u8]) {
 }
 
 fn row_shown(header: &[u8], out: &mut [u8]) {
-    let FromBuf::Rdh(h) = RdhCru::from_buf(header) else {
+    let FromBuf::Rdh(h) = serde_rdh::from_buf(header) else {
         show::text(b"refused 9\n");
         return;
     };

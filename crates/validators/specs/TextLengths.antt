@@ -8,8 +8,8 @@ use lib.Bits.{bitAnd, and-le-r}
 use lib.ListN.{length, length-append}
 use Rattle.basis.specs.Pick.{pick}
 use Rattle.rdh.specs.declared.rdh_cru.RdhCru.{RdhCru}
-use Rattle.rdh.specs.Layout.{InRange, span, value}
-use Rattle.rdh.specs.Layout.Field.{header-id, header-size, priority-bit, system-id, rdh0-reserved0, bc-reserved0, trigger-type, stop-bit, rdh2-reserved0, detector-field, rdh3-reserved0, cruid-dw}
+use Rattle.serde_rdh.specs.Layout.{InRange, span, value}
+use Rattle.serde_rdh.specs.Layout.Field.{header-id, header-size, priority-bit, system-id, rdh0-reserved0, bc-reserved0, trigger-type, stop-bit, rdh2-reserved0, detector-field, rdh3-reserved0, cruid-dw}
 use Rattle.rdh.specs.Subfields.{bcOf, bcReservedOf, dataFormatOf, dwOf, layerOf, staveOf}
 use Rattle.text.specs.Ascii.{ascii}
 use Rattle.text.specs.Numerals.{decimal, hex, numeral}

@@ -12,7 +12,7 @@ use mathlib.Core.Logic.{_↔_}
 use Rattle.basis.specs.Pick.{on, off}
 use Rattle.basis.specs.Refusals.{gives, refuses}
 use Rattle.rdh.specs.declared.rdh_cru.RdhCru.{RdhCru}
-use Rattle.rdh.specs.Layout.{InRange}
+use Rattle.serde_rdh.specs.Layout.{InRange}
 use Rattle.text.specs.Put.{Put}
 use Rattle.text.specs.Written.{overwritten}
 use Rattle.text.specs.WrittenLaws.{fitting}

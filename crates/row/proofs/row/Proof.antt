@@ -1,7 +1,7 @@
 -- A row that has room for the longest one fits; any other is measured first.
 use native.Mathlib.Nat.{le-trans}
 use native.Mathlib.Omega.{arith}
-use Rattle.rdh.proofs.Held.{in-range}
+use Rattle.serde_rdh.proofs.Held.{in-range}
 use Rattle.text.specs.PutLaws.{measured}
 use Rattle.text.specs.WrittenLaws.{fitting, too-short}
 use Rattle.row.specs.RowLaws.{longest-row}

@@ -1,0 +1,178 @@
+-- Laws of the table: its fields fill the 64 bytes, decoding and encoding undo each other, and headers are the same exactly when their
+-- bytes are. What holds of every field is proved over a list of fields that stand side by side.
+use mathlib.Core.Path.{_≡_, refl, sym, ap, subst, _∙_}
+use mathlib.Core.Bool.{Bool, true, false}
+use mathlib.Core.Logic.{_↔_}
+use mathlib.Core.List.{List, [], _∷_, _++_, append-assoc, append-nil}
+use Prim.Native.Nat.{ℕ, _+_, _≤_}
+use native.Mathlib.Omega.{arith}
+use lib.Dec.{eqb}
+use lib.ListN.{length, take, drop, length-append}
+use lib.Seq.{take-add}
+use Rattle.basis.specs.Bytes.{Bytes, bytesOf, numberAt}
+use Rattle.basis.specs.BytesLaws.{length-bytesOf, bytesOf-numberAt, numberAt-bytesOf, numberAt-take}
+use Rattle.basis.specs.Pick.{pick}
+use Rattle.rdh.specs.declared.rdh_cru.RdhCru.{RdhCru}
+use Rattle.serde_rdh.specs.Layout.{Field, fields, span, value, Tiles, header, number, decoded, bytesIn, encoded, InRange}
+use Rattle.serde_rdh.specs.Layout.{header-id, header-size, fee-id, priority-bit, system-id, rdh0-reserved0, offset-new-packet}
+use Rattle.serde_rdh.specs.Layout.{memory-size, link-id, packet-counter, cruid-dw, bc-reserved0, orbit, dataformat-reserved0}
+use Rattle.serde_rdh.specs.Layout.{trigger-type, pages-counter, stop-bit, rdh2-reserved0, reserved1, detector-field, par-bit}
+use Rattle.serde_rdh.specs.Layout.{rdh3-reserved0, reserved2}
+
+-- the table covers all 64 bytes, each once
+pub tiled : Tiles 0 fields 64
+unfolding span
+tiled = omega arith
+
+-- ---- from the list of fields to every field: the list has them all
+
+abbrev pub Each : (Field → Type 0) → List Field → Type 0
+Each P [] = Unit
+Each P (f ∷ fs) = P f × Each P fs
+
+-- f is the field of the list that starts at its byte
+Listed : Field → List Field → Type 0
+Listed f [] = ⊥
+Listed f (g ∷ fs) = pick (eqb (span f .offset) (span g .offset)) (f ≡ g) (Listed f fs)
+
+listed : (f : Field) → Listed f fields
+unfolding Listed span
+listed header-id = refl
+listed header-size = refl
+listed fee-id = refl
+listed priority-bit = refl
+listed system-id = refl
+listed rdh0-reserved0 = refl
+listed offset-new-packet = refl
+listed memory-size = refl
+listed link-id = refl
+listed packet-counter = refl
+listed cruid-dw = refl
+listed bc-reserved0 = refl
+listed orbit = refl
+listed dataformat-reserved0 = refl
+listed trigger-type = refl
+listed pages-counter = refl
+listed stop-bit = refl
+listed rdh2-reserved0 = refl
+listed reserved1 = refl
+listed detector-field = refl
+listed par-bit = refl
+listed rdh3-reserved0 = refl
+listed reserved2 = refl
+
+of-each : (P : Field → Type 0) (f : Field) (fs : List Field) → Listed f fs → Each P fs → P f
+unfolding Listed
+of-each P f [] l e = absurd l
+of-each P f (g ∷ fs) l e = go (eqb (span f .offset) (span g .offset)) l (λ later. of-each P f fs later (e .1))
+  where
+    go : (b : Bool) → pick b (f ≡ g) (Listed f fs) → (Listed f fs → P f) → P f
+    go true same next = subst P (sym same) (e .0)
+    go false later next = next later
+
+pub every : (P : Field → Type 0) → Each P fields → (f : Field) → P f
+every P e f = of-each P f fields (listed f) e
+
+-- ---- the fields of a header
+
+value-header : (n : Field → ℕ) (f : Field) → value f (header n) ≡ n f
+unfolding value header
+value-header n f = every (λ g. value g (header n) ≡ n g) (omega arith) f
+
+pub value-decoded : (s : List ℕ) (f : Field) → value f (decoded s) ≡ number s f
+unfolding decoded
+value-decoded s f = value-header (number s) f
+
+-- headers with equal numbers in every field are the same
+pub same-fields : (a b : RdhCru) → ((f : Field) → value f a ≡ value f b) → a ≡ b
+unfolding value header
+same-fields a b e = λ i. header (λ f. e f i)
+
+-- ---- lengths
+
+length-bytesIn : (h : RdhCru) (fs : List Field) (first end : ℕ) → Tiles first fs end → first + length (bytesIn fs h) ≡ end
+unfolding bytesIn
+length-bytesIn h [] first end t = omega arith
+length-bytesIn h (f ∷ fs) first end t =
+    let width = span f .width in
+    let own = bytesOf width (value f h) in
+    omega (arith, length-bytesIn h fs (first + width) end (t .1), length-append own (bytesIn fs h), length-bytesOf width (value f h))
+
+pub length-encoded : (h : RdhCru) → length (encoded h) ≡ 64
+length-encoded h = omega (arith, length-bytesIn h fields 0 64 tiled)
+
+ordered : (fs : List Field) (first end : ℕ) → Tiles first fs end → first ≤ end
+ordered [] first end t = omega arith
+ordered (f ∷ fs) first end t = omega (arith, ordered fs (first + span f .width) end (t .1))
+
+within : (fs : List Field) (first end : ℕ) → Tiles first fs end → Each (λ f. span f .offset + span f .width ≤ end) fs
+within [] first end t = tt
+within (f ∷ fs) first end t =
+    let next = first + span f .width in
+    (omega (arith, ordered fs next end (t .1)), within fs next end (t .1))
+
+-- ---- decoding
+
+-- "Decoding uses the first 64 bytes of what is lent": bytes behind them change nothing
+pub decoded-take : (n : ℕ) (s : List ℕ) → 64 ≤ n → decoded (take n s) ≡ decoded s
+decoded-take n s enough =
+    same-fields _ _
+    (λ f.
+    let inside = every (λ g. span g .offset + span g .width ≤ 64) (within fields 0 64 tiled) f in
+    value-decoded (take n s) f
+    ∙ numberAt-take s n (span f .offset) (span f .width) (omega arith)
+    ∙ sym (value-decoded s f))
+
+module _ (h : RdhCru) (fits : InRange h) (rest : List ℕ) where
+  -- behind as many bytes p as stand before them, the fields' bytes hold the header's numbers
+  numbers-back : (fs : List Field) (first end : ℕ) → Tiles first fs end → (p : List ℕ) → length p ≡ first
+      → Each (λ f. number (p ++ (bytesIn fs h ++ rest)) f ≡ value f h) fs
+  unfolding bytesIn
+  numbers-back [] first end t p long = tt
+  numbers-back (f ∷ fs) first end t p long =
+      let width = span f .width in
+      let own = bytesOf width (value f h) in
+      let rejoin : own ++ bytesIn fs h ++ rest ≡ own ++ (bytesIn fs h ++ rest) = append-assoc own (bytesIn fs h) rest in
+      let whole : p ++ own ++ (bytesIn fs h ++ rest) ≡ p ++ (own ++ bytesIn fs h ++ rest) = simp append-assoc in (
+        ap (λ (l : List ℕ). number (p ++ l) f) rejoin
+            ∙ numberAt-bytesOf p (bytesIn fs h ++ rest) (span f .offset) width (value f h) (long ∙ sym (t .0)) (fits f),
+        subst
+            (λ (l : List ℕ). Each (λ g. number l g ≡ value g h) fs)
+            whole
+            (numbers-back fs (first + width) end (t .1) (p ++ own) (omega (arith, length-append p own, length-bytesOf width (value f h)))),
+      )
+
+  -- "encode then decode the same header", whatever bytes follow
+  pub decoded-encoded : decoded (encoded h ++ rest) ≡ h
+  decoded-encoded =
+      same-fields _ _
+      (λ f.
+      value-decoded (encoded h ++ rest) f
+      ∙ every (λ g. number (encoded h ++ rest) g ≡ value g h) (numbers-back fields 0 64 tiled [] refl) f)
+
+-- ---- encoding
+
+module _ (s : List ℕ) (bytes : Bytes s) where
+  bytes-back : (fs : List Field) (first end : ℕ) → Tiles first fs end → end ≤ length s → take first s ++ bytesIn fs (decoded s) ≡ take end s
+  unfolding bytesIn
+  bytes-back [] first end t fit = append-nil (take first s) ∙ ap (λ (n : ℕ). take n s) t
+  bytes-back (f ∷ fs) first end t fit =
+      let width = span f .width in
+      let next = first + width in
+      let own : bytesOf width (value f (decoded s)) ≡ take width (drop first s) =
+      ap (bytesOf width) (value-decoded s f)
+      ∙ ap (λ (n : ℕ). bytesOf width (numberAt s n width)) (t .0)
+      ∙ bytesOf-numberAt s first width bytes (omega (arith, ordered fs next end (t .1))) in
+      ap (λ (l : List ℕ). take first s ++ (l ++ bytesIn fs (decoded s))) own
+      ∙ sym (append-assoc (take first s) (take width (drop first s)) (bytesIn fs (decoded s)))
+      ∙ ap (λ (l : List ℕ). l ++ bytesIn fs (decoded s)) (sym (take-add first width s))
+      ∙ bytes-back fs next end (t .1) fit
+
+  -- "Decode then encode gives the same 64 bytes"
+  pub encoded-decoded : 64 ≤ length s → encoded (decoded s) ≡ take 64 s
+  encoded-decoded long = bytes-back fields 0 64 tiled long
+
+-- equal by bytes exactly when the same header
+pub same-bytes : (a b : RdhCru) → InRange a → InRange b → (encoded a ≡ encoded b) ↔ (a ≡ b)
+same-bytes a b fits-a fits-b =
+    (λ e. sym (decoded-encoded a fits-a []) ∙ ap (λ (s : List ℕ). decoded (s ++ [])) e ∙ decoded-encoded b fits-b [], ap encoded)
