@@ -1,4 +1,5 @@
--- Each turn puts the mismatch of the next counter, if there is one, behind those of the ones before.
+-- Each turn puts the mismatch of the next counter, if there is one, behind those of the ones before. As in `put_list`, the invariant
+-- speaks of any statistics that the arrays are made of.
 use Prim.Native.Nat.{ℕ, _-_, _≤_}
 use mathlib.Core.Path.{_≡_, ap, ap₂, _∙_}
 use mathlib.Core.List.{[], map}
