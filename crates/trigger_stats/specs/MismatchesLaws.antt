@@ -1,5 +1,5 @@
 -- Laws of the comparison: what holds of the text in every order that the contract allows, and one order that it allows.
-use Prim.Native.Nat.{ℕ, _+_, _-_, _*_, _^_, _≤_, _<_}
+use Prim.Native.Nat.{ℕ, _+_, _-_, _*_, _≤_}
 use mathlib.Core.Bool.{Bool, true, false}
 use mathlib.Core.Path.{_≡_, refl, sym, ap, subst, _∙_}
 use mathlib.Core.List.{List, [], _∷_, _++_}
@@ -13,7 +13,6 @@ use Rattle.basis.specs.Pick.{pick, on}
 use Rattle.basis.specs.Refusals.Answer.{gives, refuses}
 use Rattle.text.specs.declared.Written.{Written}
 use Rattle.text.specs.Ascii.{ascii}
-use Rattle.text.specs.Numerals.{decimal}
 use Rattle.text.specs.Written.{Writes, answer, written}
 use Rattle.trigger_stats.specs.declared.TriggerStats.{TriggerStats}
 use Rattle.trigger_stats.specs.Counters.{Counter, InRange, bitOf, count, counters}

@@ -211,6 +211,7 @@ impl TriggerStats {
         Written::Text(self.put_list(out, 0))
     }
 
+    // The title and a line for each counter.
     fn put_list(self, out: &mut [u8], at: usize) -> usize
         ensures { λ r. ⌜ Put (now (out .entry)) at (listText self) (now (out .exit)) r ⌝ }
     {
@@ -240,6 +241,7 @@ impl TriggerStats {
         Written::Text(self.put_mismatches(other, out, 0))
     }
 
+    // The lines of a comparison, in the order of the fields, as the Rust has them.
     fn put_mismatches(self, other: TriggerStats, out: &mut [u8], at: usize) -> usize
         ensures { λ r. ⌜ Put (now (out .entry)) at (inOrder (mismatchIfAny self other) counters) (now (out .exit)) r ⌝ }
     {

@@ -5,7 +5,7 @@ use native.Mathlib.Omega.{arith}
 use Rattle.text.specs.PutLaws.{measured}
 use Rattle.text.specs.PutLaws.{same-length as kept-length}
 use Rattle.text.specs.WrittenLaws.{fitting, too-short}
-use Rattle.trigger_stats.specs.Counters.{Counter, InRange, count}
+use Rattle.trigger_stats.specs.Counters.{InRange, count}
 use Rattle.trigger_stats.specs.Counters.{orbit, hb, hbr, hc, pht, pp, cal, sot, eot, soc, eoc, tf, fe-rst, rt, rs}
 use Rattle.trigger_stats.specs.Counters.{lhc-gap1, lhc-gap2, tpc-sync, tpc-rst, tof}
 use Rattle.trigger_stats.specs.TriggerListLaws.{longest-list}

@@ -1,4 +1,5 @@
--- After the title, each turn puts the line of the next counter behind those of the ones before.
+-- After the title, each turn puts the line of the next counter behind those of the ones before. The loop has the array of counts and
+-- not the statistics, so the invariant speaks of any statistics that the array is made of.
 use Prim.Native.Nat.{ℕ, _-_, _≤_}
 use mathlib.Core.Path.{_≡_, refl, ap, _∙_}
 use mathlib.Core.List.{map}

@@ -1,7 +1,8 @@
--- Each turn puts the mismatch of the next counter, if there is one, behind those of the ones before.
+-- Each turn puts the mismatch of the next counter, if there is one, behind those of the ones before. As in `put_list`, the invariant
+-- speaks of any statistics that the arrays are made of.
 use Prim.Native.Nat.{ℕ, _-_, _≤_}
-use mathlib.Core.Path.{_≡_, refl, ap, ap₂, _∙_}
-use mathlib.Core.List.{List, [], map}
+use mathlib.Core.Path.{_≡_, ap, ap₂, _∙_}
+use mathlib.Core.List.{[], map}
 use native.Mathlib.Omega.{arith}
 use lib.Dec.{eqb}
 use lib.ListN.{getD, take}
@@ -12,7 +13,7 @@ use Rattle.text.specs.Put.{Put}
 use Rattle.text.specs.PutLaws.{put-nothing, respelled}
 use Rattle.text.specs.PutLaws.{same-length as kept-length}
 use Rattle.trigger_stats.specs.declared.TriggerStats.{TriggerStats}
-use Rattle.trigger_stats.specs.Counters.{Counter, count, counterAt, counters}
+use Rattle.trigger_stats.specs.Counters.{count, counterAt, counters}
 use Rattle.trigger_stats.specs.Lines.{inOrder}
 use Rattle.trigger_stats.specs.LinesLaws.{next-one}
 use Rattle.trigger_stats.specs.Mismatches.{mismatch, mismatchIfAny, mismatchOf, name}
