@@ -137,7 +137,7 @@ fn reply_shown(r: Written, out: &[u8]) {
 }
 
 fn list_into(s: TriggerStats, out: &mut [u8]) {
-    let r = s.display(out);
+    let r = trigger_texts::display(s, out);
     reply_shown(r, out);
 }
 
@@ -170,7 +170,7 @@ fn lists_shown() {
 }
 
 fn comparison_into(s: TriggerStats, other: TriggerStats, out: &mut [u8]) {
-    let r = s.validate_other(other, out);
+    let r = trigger_texts::validate_other(s, other, out);
     reply_shown(r, out);
 }
 

@@ -1,0 +1,6 @@
+pub mod Lines
+pub mod LinesLaws
+pub mod TriggerList
+pub mod TriggerListLaws
+pub mod Mismatches
+pub mod MismatchesLaws
