@@ -1,0 +1,18 @@
+-- The counts of a scan (document 01, "The chain and one examination").
+use Prim.Native.Nat.{ℕ, _+_, _-_, _%_, _^_}
+use mathlib.Core.Bool.{true, false}
+use lib.Dec.{eqb}
+use Rattle.basis.specs.Pick.{pick}
+use Rattle.stats.specs.declared.Count.{Count}
+
+-- The largest 32-bit number, at which a count is reported and starts again.
+abbrev pub fullCount : ℕ
+fullCount = 2 ^ 32 - 1
+
+-- "Seen and filtered go to 0, with a carry mark, on reaching 2^32 - 1. The payload sum wraps at 2^32; only if it then equals 2^32 - 1 does
+-- it go to 0 with a mark." One rule for the three: seen and filtered grow by 1, payload by the payload's size.
+unfoldable pub added : ℕ → ℕ → Count
+added count n =
+    pick (eqb ((count + n) % 2 ^ 32) fullCount)
+    (record { value = 0; carry = true })
+    (record { value = (count + n) % 2 ^ 32; carry = false })

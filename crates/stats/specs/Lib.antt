@@ -1,0 +1,3 @@
+pub mod Counts
+pub mod Listed
+pub mod ListedLaws

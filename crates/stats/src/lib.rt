@@ -1,0 +1,88 @@
+// The counts and lists of a scan, as the Rust's `Stats` keeps them.
+ghost use mathlib.Core.Path.{_≡_};
+ghost use Prim.Native.Nat.{min};
+ghost use lib.ListN.{take};
+ghost use Rattle.stats.specs.Counts.{added};
+ghost use Rattle.stats.specs.Listed.{member, twice};
+
+// A count, and whether it was full and started again at 0.
+pub struct Count {
+    pub value: u32,
+    pub carry: bool,
+}
+
+// The count with `n` more, modulo 2^32. Where that is 2^32 - 1, it is set to 0 and marked.
+pub fn add(count: u32, n: u32) -> Count
+    ensures { λ r. ⌜ r ≡ added count n ⌝ }
+{
+    let sum = std::num::wrapping_add_u32(count, n);
+    if sum == u32::MAX {
+        return Count {
+            value: 0,
+            carry: true,
+        };
+    }
+    Count {
+        value: sum,
+        carry: false,
+    }
+}
+
+fn least(a: usize, b: usize) -> usize
+    ensures { λ r. ⌜ r ≡ min a b ⌝ }
+{
+    if a < b { a } else { b }
+}
+
+// Whether a FEE id is in the used part of the list.
+pub fn has_fee_id(fee_ids: &[u16], used: usize, fee_id: u16) -> bool
+    ensures { λ r. ⌜ r ≡ member «fee_id» (take used (now («fee_ids» .entry))) ⌝ }
+{
+    let end = least(used, fee_ids.len());
+    let mut i = 0;
+    while i < end {
+        if fee_ids[i] == fee_id {
+            return true;
+        }
+        i += 1;
+    }
+    false
+}
+
+// Whether a link is in the used part of the list.
+pub fn has_link(links: &[u8], used: usize, link: u8) -> bool
+    ensures { λ r. ⌜ r ≡ member link (take used (now (links .entry))) ⌝ }
+{
+    let end = least(used, links.len());
+    let mut i = 0;
+    while i < end {
+        if links[i] == link {
+            return true;
+        }
+        i += 1;
+    }
+    false
+}
+
+// Whether a link is in the used part of the list twice, found in one walk from its end.
+pub fn has_link_twice(links: &[u8], used: usize) -> bool
+    ensures { λ r. ⌜ r ≡ twice (take used (now (links .entry))) ⌝ }
+{
+    let mut later = [false; 256];
+    let mut i = least(used, links.len());
+    while 0 < i {
+        i -= 1;
+        let link = wide(links[i]);
+        if later[link] {
+            return true;
+        }
+        later[link] = true;
+    }
+    false
+}
+
+fn wide(x: u8) -> usize
+    ensures { λ r. ⌜ r ≡ x ⌝ }
+{
+    x as usize
+}

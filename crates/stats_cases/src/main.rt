@@ -1,0 +1,78 @@
+// Counts at their edges, and searches through lists whose used part is empty, a part, all, or said to be more than there is.
+fn answer(b: bool) {
+    if b {
+        show::text(b" yes");
+    } else {
+        show::text(b" no");
+    }
+}
+
+fn added(count: u32, n: u32) {
+    let c = stats::add(count, n);
+    show::number(count as u64);
+    show::text(b" +");
+    show::number(n as u64);
+    show::text(b" =");
+    show::number(c.value as u64);
+    if c.carry {
+        show::text(b", carried");
+    }
+    show::end();
+}
+
+fn links(list: &[u8], used: usize) {
+    show::text(b"links");
+    show::bytes(list);
+    show::text(b" used");
+    show::number(used as u64);
+    show::text(b": 0");
+    answer(stats::has_link(list, used, 0));
+    show::text(b", 7");
+    answer(stats::has_link(list, used, 7));
+    show::text(b", 255");
+    answer(stats::has_link(list, used, 255));
+    show::text(b", twice");
+    answer(stats::has_link_twice(list, used));
+    show::end();
+}
+
+fn fee_ids(list: &[u16], used: usize) {
+    show::text(b"FEE ids, used");
+    show::number(used as u64);
+    show::text(b": 0x502a");
+    answer(stats::has_fee_id(list, used, 0x502A));
+    show::text(b", 42");
+    answer(stats::has_fee_id(list, used, 42));
+    show::text(b", 65535");
+    answer(stats::has_fee_id(list, used, 65535));
+    show::end();
+}
+
+fn main() {
+    added(0, 1);
+    added(4294967293, 1);
+    added(4294967294, 1);
+    added(4294967295, 1);
+    added(0, 0);
+    added(4294967295, 0);
+    added(4294967290, 5);
+    added(4294967290, 6);
+    added(4294967290, 65471);
+    added(4294967295, 4294967295);
+    links(b"", 0);
+    links(b"", 3);
+    links(&[7, 0, 255], 0);
+    links(&[7, 0, 255], 1);
+    links(&[7, 0, 255], 3);
+    links(&[7, 0, 255], 18446744073709551615);
+    links(&[7, 0, 255, 7], 3);
+    links(&[7, 0, 255, 7], 4);
+    links(&[255, 255], 2);
+    links(&[0, 1, 0], 3);
+    let ids = [0x502A, 42, 65535, 42];
+    fee_ids(&ids, 0);
+    fee_ids(&ids, 1);
+    fee_ids(&ids, 2);
+    fee_ids(&ids, 4);
+    fee_ids(&ids, 5);
+}
