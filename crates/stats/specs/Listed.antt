@@ -1,9 +1,9 @@
--- The lists of a scan: "Links (256 kept) and FEE ids are listed in order of first sight" (document 01). Only a list's used part counts.
+-- The lists of a scan: "Links (256 kept) and FEE ids are listed in order of first sight" (document 01), so that a number is looked for
+-- before it is listed; and refusal 6, "a link listed twice". Both look at a list's used part alone.
 use Prim.Native.Nat.{ℕ}
 use mathlib.Core.Bool.{Bool, false, _||_}
-use mathlib.Core.List.{List, [], _∷_, _++_}
+use mathlib.Core.List.{List, [], _∷_}
 use lib.Dec.{eqb}
-use Rattle.basis.specs.Pick.{pick}
 
 -- Whether a number is listed.
 unfoldable pub member : ℕ → List ℕ → Bool
@@ -14,7 +14,3 @@ member x (y ∷ ys) = eqb x y || member x ys
 unfoldable pub twice : List ℕ → Bool
 twice [] = false
 twice (y ∷ ys) = member y ys || twice ys
-
--- The list once a number has been seen: behind the others where it is new.
-unfoldable pub sighted : ℕ → List ℕ → List ℕ
-sighted x l = pick (member x l) l (l ++ (x ∷ []))

@@ -1,16 +1,15 @@
--- Laws of lists: a search from the front, a search from the back for what is listed twice, and what a new number does to a list.
+-- Laws of lists: a search from the front, and a walk from the back for what is listed twice.
 use Prim.Native.Nat.{ℕ, zero, suc, _+_, _<_, _≤_, min}
-use mathlib.Core.Bool.{Bool, true, false, _||_, or-assoc, or-false, or-true}
+use mathlib.Core.Bool.{Bool, true, false, _||_, or-true}
 use mathlib.Core.Path.{_≡_, refl, ap, sym, _∙_}
-use mathlib.Core.List.{List, [], _∷_, _++_}
+use mathlib.Core.List.{List, [], _∷_}
 use native.Mathlib.Omega.{arith}
 use native.Mathlib.Numerals.{add-one}
 use borrow.Author.Tests.{eq-eqb, ne-eqb, eqb-true, eqb-false}
 use lib.Dec.{eqb}
 use lib.ListN.{length, take, drop, getD, set, replicate, length-take, length-set, getD-replicate, drop-of-length-le}
 use lib.Seq.{drop-cons, getD-take, getD-set-same, getD-set-other}
-use Rattle.basis.specs.Pick.{pick, on, off}
-use Rattle.stats.specs.Listed.{member, twice, sighted}
+use Rattle.stats.specs.Listed.{member, twice}
 
 -- a search looks at one element, then at the rest
 pub member-at : (x : ℕ) (l : List ℕ) (i : ℕ) → i < length l → member x (drop i l) ≡ (eqb x (getD l i 0) || member x (drop (suc i) l))
