@@ -3,6 +3,13 @@
 use serde_rdh::FromBuf;
 use text::Written;
 
+// A number of its own in every field.
+const ORDINARY: [u8; 64] = *b"\
+    \x07\x40\x2a\x50\x01\x20\x02\x00\xc0\x1f\x03\x00\x0b\xc8\x18\x00\
+    \x23\xe1\xcd\xab\x75\xd5\x7d\x0b\x02\x12\x00\x00\x00\x00\x00\x00\
+    \x13\x48\x00\x00\x11\x00\x01\x05\x06\x00\x00\x00\x00\x00\x00\x00\
+    \x03\x00\x00\x01\x08\x00\x09\x00\x0a\x00\x00\x00\x00\x00\x00\x00";
+
 fn shown(r: Written, out: &[u8]) {
     match r {
         Written::Text(n) => {
@@ -53,74 +60,8 @@ fn main() {
     case(&widest, 115);
     case(&widest, 128);
     show::text(b"ordinary\n");
-    let ordinary = [
-        0x07,
-        0x40,
-        0x2a,
-        0x50,
-        0x01,
-        0x20,
-        0x02,
-        0x00,
-        0xc0,
-        0x1f,
-        0x03,
-        0x00,
-        0x0b,
-        0xc8,
-        0x18,
-        0x00,
-        0x23,
-        0xe1,
-        0xcd,
-        0xab,
-        0x75,
-        0xd5,
-        0x7d,
-        0x0b,
-        0x02,
-        0x12,
-        0x00,
-        0x00,
-        0x00,
-        0x00,
-        0x00,
-        0x00,
-        0x13,
-        0x48,
-        0x00,
-        0x00,
-        0x11,
-        0x00,
-        0x01,
-        0x05,
-        0x06,
-        0x00,
-        0x00,
-        0x00,
-        0x00,
-        0x00,
-        0x00,
-        0x00,
-        0x03,
-        0x00,
-        0x00,
-        0x01,
-        0x08,
-        0x00,
-        0x09,
-        0x00,
-        0x0a,
-        0x00,
-        0x00,
-        0x00,
-        0x00,
-        0x00,
-        0x00,
-        0x00,
-    ];
-    case(&ordinary, 112);
-    case(&ordinary, 113);
-    case(&ordinary, 114);
-    case(&ordinary, 120);
+    case(&ORDINARY, 112);
+    case(&ORDINARY, 113);
+    case(&ORDINARY, 114);
+    case(&ORDINARY, 120);
 }

@@ -36,18 +36,24 @@ wide-requires c κs = search needs
 array-read-if1 : tie.Need-array-read-if1 Inv-loop μ-loop
 array-read-if1 c = omega (arith, c .wide .ensures, c .before .shared-slice-known2 .given (c .before .before .before .loop .i - 1))
 
+-- where a link has been read: what the walk knows of those behind it, and that it is a byte of the list
+at-link : (c : tie.After-wide Inv-loop μ-loop)
+    → Walked (c .before .before .before .before .before .before .args .links .now) (c .before .before .before .before .before .before .args .used)
+    (suc (c .before .before .before .loop .i - 1)) (c .before .before .before .loop .later)
+    × (getD (c .before .before .before .before .before .before .args .links .now) (c .before .before .before .loop .i - 1) 0 < 256)
+at-link c =
+    let loop = c .before .before .before in
+    let args = loop .before .before .before .args in
+    let next : loop .loop .i ≡ suc (loop .loop .i - 1) = omega arith in (
+      subst (λ (k : ℕ). Walked (args .links .now) (args .used) k (loop .loop .later)) next (loop .loop .inv),
+      omega (arith, c .before .shared-slice-known2 .given (loop .loop .i - 1)),
+    )
+
 returns : tie.Need-returns Inv-loop μ-loop
 returns c =
-    let loop = c .before .before .before .before in
-    let links = loop .before .before .before .args .links .now in
-    let used = loop .before .before .before .args .used in
-    let i = loop .loop .i - 1 in
-    let next : loop .loop .i ≡ suc i = omega arith in
-    let walked = subst (λ (k : ℕ). Walked links used k (loop .loop .later)) next (loop .loop .inv) in
-    let byte : getD links i 0 < 256 = omega (arith, c .before .before .shared-slice-known2 .given i) in
-    let link = c .before .wide .ensures in
-    walk-finds links used i (loop .loop .later) walked byte
-    (ap (λ (x : ℕ). getD (loop .loop .later) x false) (sym link) ∙ c .if1 .taken)
+    let later = c .before .before .before .before .loop .later in
+    let (walked, byte) = at-link (c .before) in
+    walk-finds _ _ _ later walked byte (ap (λ (x : ℕ). getD later x false) (sym (c .before .wide .ensures)) ∙ c .if1 .taken)
 
 array-write-later : tie.Need-array-write-later Inv-loop μ-loop
 array-write-later c =
@@ -59,16 +65,12 @@ loop-less c = omega arith
 loop-again : tie.Need-loop-again Inv-loop μ-loop
 loop-again c =
     let loop = c .before .before .before .before in
-    let links = loop .before .before .before .args .links .now in
-    let used = loop .before .before .before .args .used in
-    let i = loop .loop .i - 1 in
-    let next : loop .loop .i ≡ suc i = omega arith in
-    let walked = subst (λ (k : ℕ). Walked links used k (loop .loop .later)) next (loop .loop .inv) in
-    let byte : getD links i 0 < 256 = omega (arith, c .before .before .shared-slice-known2 .given i) in
+    let args = loop .before .before .before .args in
+    let later = loop .loop .later in
     let link = c .before .wide .ensures in
-    subst (λ (x : ℕ). Walked links used i (set (loop .loop .later) x true)) (sym link)
-    (walk-goes-on links used i (loop .loop .later) walked byte
-    (ap (λ (x : ℕ). getD (loop .loop .later) x false) (sym link) ∙ c .if1 .left))
+    let (walked, byte) = at-link (c .before) in
+    subst (λ (x : ℕ). Walked (args .links .now) (args .used) (loop .loop .i - 1) (set later x true)) (sym link)
+    (walk-goes-on _ _ _ later walked byte (ap (λ (x : ℕ). getD later x false) (sym link) ∙ c .if1 .left))
 
 returns-2 : tie.Need-returns-2 Inv-loop μ-loop
 returns-2 c =
