@@ -1,9 +1,11 @@
 -- The lists of a scan: "Links (256 kept) and FEE ids are listed in order of first sight" (document 01), so that a number is looked for
 -- before it is listed; and refusal 6, "a link listed twice". Both look at a list's used part alone.
-use Prim.Native.Nat.{ℕ}
-use mathlib.Core.Bool.{Bool, false, _||_}
+use Prim.Native.Nat.{ℕ, _+_}
+use mathlib.Core.Bool.{Bool, false, not, _||_, _&&_}
 use mathlib.Core.List.{List, [], _∷_}
-use lib.Dec.{eqb}
+use lib.Dec.{eqb, leb, ltb}
+use lib.ListN.{length, set, take}
+use Rattle.basis.specs.Pick.{pick}
 
 -- Whether a number is listed.
 unfoldable pub member : ℕ → List ℕ → Bool
@@ -14,3 +16,19 @@ member x (y ∷ ys) = eqb x y || member x ys
 unfoldable pub twice : List ℕ → Bool
 twice [] = false
 twice (y ∷ ys) = member y ys || twice ys
+
+-- Whether a number that is met is listed: it is new, and the list has a place for it.
+abbrev pub goesIn : ℕ → ℕ → List ℕ → Bool
+goesIn x used l = ltb used (length l) && not (member x (take used l))
+
+-- "listed in order of first sight": a new number is put at the first place behind the used part. All other places stay as they are.
+unfoldable pub placesAfter : ℕ → ℕ → List ℕ → List ℕ
+placesAfter x used l = pick (goesIn x used l) (set l used x) l
+
+-- The used number after it.
+unfoldable pub usedAfter : ℕ → ℕ → List ℕ → ℕ
+usedAfter x used l = pick (goesIn x used l) (used + 1) used
+
+-- Whether a number is new and the list has no place for it: refusal 4, "FEE id new, list full".
+unfoldable pub full : ℕ → ℕ → List ℕ → Bool
+full x used l = leb (length l) used && not (member x (take used l))

@@ -1,15 +1,16 @@
 -- Laws of lists: a search from the front, and a walk from the back for what is listed twice.
 use Prim.Native.Nat.{ℕ, zero, suc, _+_, _<_, _≤_, min}
-use mathlib.Core.Bool.{Bool, true, false, _||_, or-true}
+use mathlib.Core.Bool.{Bool, true, false, not, _||_, _&&_, or-true}
 use mathlib.Core.Path.{_≡_, refl, ap, sym, _∙_}
 use mathlib.Core.List.{List, [], _∷_}
 use native.Mathlib.Omega.{arith}
 use native.Mathlib.Numerals.{add-one}
-use borrow.Author.Tests.{eq-eqb, ne-eqb, eqb-true, eqb-false}
-use lib.Dec.{eqb}
+use borrow.Author.Tests.{eq-eqb, ne-eqb, eqb-true, eqb-false, lt-ltb, le-ltb, le-leb, lt-leb}
+use lib.Dec.{eqb, ltb}
 use lib.ListN.{length, take, drop, getD, set, replicate, length-take, length-set, getD-replicate, drop-of-length-le}
 use lib.Seq.{drop-cons, getD-take, getD-set-same, getD-set-other}
-use Rattle.stats.specs.Listed.{member, twice}
+use Rattle.basis.specs.Pick.{on, off}
+use Rattle.stats.specs.Listed.{full, goesIn, member, placesAfter, twice, usedAfter}
 
 -- a search looks at one element, then at the rest
 pub member-at : (x : ℕ) (l : List ℕ) (i : ℕ) → i < length l → member x (drop i l) ≡ (eqb x (getD l i 0) || member x (drop (suc i) l))
@@ -116,3 +117,39 @@ module _ (l : List ℕ) (used i : ℕ) (later : List Bool) (walked : Walked l us
 pub walk-ends : (l : List ℕ) (used k : ℕ) (later : List Bool) → Walked l used k later → k ≤ 0 → false ≡ twice (take used l)
 walk-ends l used zero later walked e = sym (walked .once)
 walk-ends l used (suc k) later walked e = absurd (omega arith)
+
+-- ---- a number that is met
+
+-- A list with no place left, or with the number in its used part, stays as it is.
+pub record Stays (x used : ℕ) (l : List ℕ) : Type 0 where
+  pub number : used ≡ usedAfter x used l
+  pub places : l ≡ placesAfter x used l
+
+stays : (x used : ℕ) (l : List ℕ) → goesIn x used l ≡ false → Stays x used l
+unfolding usedAfter placesAfter
+stays x used l e = record { number = sym (off _ _ e); places = sym (off _ _ e) }
+
+pub no-place : (x used : ℕ) (l : List ℕ) → length l ≤ used → Stays x used l
+no-place x used l h = stays x used l (ap (λ (b : Bool). b && not (member x (take used l))) (le-ltb used (length l) h))
+
+pub known : (x used : ℕ) (l : List ℕ) → used < length l → member x (take used l) ≡ true → Stays x used l
+known x used l h e = stays x used l (ap (λ (b : Bool). b && not (member x (take used l))) (lt-ltb used (length l) h) ∙ ap (λ (b : Bool). not b) e)
+
+-- A new number with a place is put there.
+pub record GoesIn (x used : ℕ) (l : List ℕ) : Type 0 where
+  pub number : used + 1 ≡ usedAfter x used l
+  pub places : set l used x ≡ placesAfter x used l
+
+pub new : (x used : ℕ) (l : List ℕ) → used < length l → member x (take used l) ≡ false → GoesIn x used l
+unfolding usedAfter placesAfter
+new x used l h e =
+    let goes = ap (λ (b : Bool). b && not (member x (take used l))) (lt-ltb used (length l) h) ∙ ap (λ (b : Bool). not b) e in
+    record { number = sym (on _ _ goes); places = sym (on _ _ goes) }
+
+pub has-place : (x used : ℕ) (l : List ℕ) → used < length l → false ≡ full x used l
+unfolding full
+has-place x used l h = sym (ap (λ (b : Bool). b && not (member x (take used l))) (lt-leb (length l) used h))
+
+pub searched : (x used : ℕ) (l : List ℕ) → length l ≤ used → not (member x (take used l)) ≡ full x used l
+unfolding full
+searched x used l h = sym (ap (λ (b : Bool). b && not (member x (take used l))) (le-leb (length l) used h))

@@ -3,7 +3,7 @@ ghost use mathlib.Core.Path.{_≡_};
 ghost use Prim.Native.Nat.{min};
 ghost use lib.ListN.{take};
 ghost use Rattle.stats.specs.Counts.{added};
-ghost use Rattle.stats.specs.Listed.{member, twice};
+ghost use Rattle.stats.specs.Listed.{full, member, placesAfter, twice, usedAfter};
 
 // A count, and whether it was full and started again at 0.
 pub struct Count {
@@ -62,6 +62,46 @@ pub fn has_link(links: &[u8], used: usize, link: u8) -> bool
         i += 1;
     }
     false
+}
+
+// Whether a FEE id is new and has no place left in the list. Only a list without a free place is searched.
+pub fn fee_ids_full(fee_ids: &[u16], used: usize, fee_id: u16) -> bool
+    ensures { λ r. ⌜ r ≡ full «fee_id» used (now («fee_ids» .entry)) ⌝ }
+{
+    if used < fee_ids.len() {
+        return false;
+    }
+    !has_fee_id(fee_ids, used, fee_id)
+}
+
+// Lists a FEE id that is new behind the used part, where there is a place, and gives the used number.
+pub fn try_add_fee_id(fee_ids: &mut [u16], used: usize, fee_id: u16) -> usize
+    ensures used { λ r. ⌜ r ≡ usedAfter «fee_id» used (now («fee_ids» .entry)) ⌝ }
+    ensures places { λ _. ⌜ now («fee_ids» .exit) ≡ placesAfter «fee_id» used (now («fee_ids» .entry)) ⌝ }
+{
+    if fee_ids.len() <= used {
+        return used;
+    }
+    if has_fee_id(fee_ids, used, fee_id) {
+        return used;
+    }
+    fee_ids[used] = fee_id;
+    used + 1
+}
+
+// Lists a link that is new behind the used part, where there is a place, and gives the used number.
+pub fn try_add_link(links: &mut [u8], used: usize, link: u8) -> usize
+    ensures used { λ r. ⌜ r ≡ usedAfter link used (now (links .entry)) ⌝ }
+    ensures places { λ _. ⌜ now (links .exit) ≡ placesAfter link used (now (links .entry)) ⌝ }
+{
+    if links.len() <= used {
+        return used;
+    }
+    if has_link(links, used, link) {
+        return used;
+    }
+    links[used] = link;
+    used + 1
 }
 
 // Whether a link is in the used part of the list twice, found in one walk from its end.

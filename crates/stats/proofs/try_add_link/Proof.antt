@@ -1,0 +1,47 @@
+-- The three cases: no place, known, new.
+use mathlib.Core.Path.{sym, _∙_}
+use Rattle.stats.specs.ListedLaws.{known, new, no-place}
+use borrow.Author.Needs.{needs}
+use Rattle.stats.proofs.try_add_link.Statement.{statement}
+use Rattle.stats.proofs.try_add_link.Tie as tie
+
+returns : tie.Need-returns
+returns c = let stays = no-place _ _ _ (c .if1 .taken) in (stays .number, stays .places)
+
+has-link-requires : tie.Need-has-link-requires
+has-link-requires c κs = search needs
+
+same-length : tie.Need-same-length
+same-length c = search needs
+
+returns-2 : tie.Need-returns-2
+returns-2 c =
+    let stays = known _ _ _ (c .before .before .before .if1 .left) (sym (c .before .has-link .ensures) ∙ c .if2 .taken) in
+    (stays .number, stays .places)
+
+slice-write-links : tie.Need-slice-write-links
+slice-write-links c = search needs
+
+add-result : tie.Need-add-result
+add-result c = search needs
+
+same-length-2 : tie.Need-same-length-2
+same-length-2 c = search needs
+
+returns-3 : tie.Need-returns-3
+returns-3 c =
+    let goes = new _ _ _ (c .before .before .before .if1 .left) (sym (c .before .has-link .ensures) ∙ c .if2 .left) in
+    (goes .number, goes .places)
+
+pub try-add-link-spec : {M : Type 1} → statement M
+try-add-link-spec =
+    tie.close
+    (tie.spec
+    returns
+    has-link-requires
+    same-length
+    returns-2
+    slice-write-links
+    add-result
+    same-length-2
+    returns-3)
