@@ -73,10 +73,10 @@ pub fn filter_target(opt: FilterOpt) -> FilterTarget
 pub fn filter_enabled(opt: FilterOpt) -> bool
     ensures { λ r. ⌜ r ≡ enabled opt ⌝ }
 {
-    let filter_link = opt.filter_link;
-    let filter_fee = opt.filter_fee;
-    let filter_its_stave = opt.filter_its_stave;
-    filter_link.is_some() | filter_fee.is_some() | filter_its_stave.is_some()
+    let link = opt.filter_link;
+    let fee = opt.filter_fee;
+    let stave = opt.filter_its_stave;
+    link.is_some() | fee.is_some() | stave.is_some()
 }
 
 // Whether a header with this link and this FEE id is taken. It gets the two numbers alone, since nothing else of a header is compared.

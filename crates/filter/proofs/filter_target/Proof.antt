@@ -1,10 +1,5 @@
 -- Each way out says which constructors the filters are up to the one that is set, and the definition computes there.
-use mathlib.Core.Path.{sym, ap, ap₂, _∙_}
-use Rattle.filter.specs.Filter.{firstSet}
-use Rattle.filter.specs.declared.Option8.{Option8}
-use Rattle.filter.specs.declared.Option8.the-variants as o8
-use Rattle.filter.specs.declared.Option16.{Option16}
-use Rattle.filter.specs.declared.Option16.the-variants as o16
+use mathlib.Core.Path.{refl}
 use borrow.Author.Needs.{needs}
 use Rattle.filter.proofs.filter_target.Statement.{statement}
 use Rattle.filter.proofs.filter_target.Tie as tie
@@ -13,9 +8,7 @@ enum-known-filter-link : tie.Need-enum-known-filter-link
 enum-known-filter-link c = search needs
 
 returns : tie.Need-returns
-returns c =
-    let opt = c .before .before .before .args .opt in
-    sym (ap (λ (link : Option8). firstSet link (opt .«filter_fee») (opt .«filter_its_stave»)) (c .before .filter-link .given .1))
+returns c = rw (c .before .filter-link .given .1) refl
 
 enum-told : tie.Need-enum-told
 enum-told c = search needs
@@ -24,13 +17,7 @@ enum-known-filter-fee : tie.Need-enum-known-filter-fee
 enum-known-filter-fee c = search needs
 
 returns-2 : tie.Need-returns-2
-returns-2 c =
-    let opt = c .before .before .before .before .before .args .opt in
-    sym
-    (ap₂
-    (λ (link : Option8) (fee : Option16). firstSet link fee (opt .«filter_its_stave»))
-    (c .before .before .before .enum-told .given .1)
-    (c .before .filter-fee .given .1))
+returns-2 c = rw (c .before .before .before .enum-told .given .1, c .before .filter-fee .given .1) refl
 
 enum-told-2 : tie.Need-enum-told-2
 enum-told-2 c = search needs
@@ -42,10 +29,7 @@ returns-3 : tie.Need-returns-3
 returns-3 c =
     let link-none = c .before .before .before .before .before .enum-told .given .1 in
     let fee-none = c .before .before .before .enum-told2 .given .1 in
-    let opt = c .before .before .before .before .before .before .before .args .opt in
-    sym
-    (ap₂ (λ (link : Option8) (fee : Option16). firstSet link fee (opt .«filter_its_stave»)) link-none fee-none
-    ∙ ap (λ (stave : Option16). firstSet o8.None o16.None stave) (c .before .filter-its-stave .given .1))
+    rw (link-none, fee-none, c .before .filter-its-stave .given .1) refl
 
 enum-told-3 : tie.Need-enum-told-3
 enum-told-3 c = search needs

@@ -1,7 +1,5 @@
 -- Each arm is one case.
-use mathlib.Core.Path.{sym, ap, _∙_}
-use Rattle.filter.specs.Filter.{matches}
-use Rattle.filter.specs.declared.FilterTarget.{FilterTarget}
+use mathlib.Core.Path.{refl}
 use borrow.Author.Needs.{needs}
 use Rattle.filter.proofs.is_rdh_filter_target.Statement.{statement}
 use Rattle.filter.proofs.is_rdh_filter_target.Tie as tie
@@ -22,20 +20,13 @@ enum-told : tie.Need-enum-told
 enum-told c = search needs
 
 returns : tie.Need-returns
-returns c =
-    let args = c .before .before .before .args in
-    sym (ap (λ (target : FilterTarget). matches target (args .link-id) (args .fee-id)) (c .before .target .given .1))
+returns c = rw (c .before .target .given .1) refl
 
 returns-2 : tie.Need-returns-2
-returns-2 c =
-    let args = c .before .before .before .args in
-    sym (ap (λ (target : FilterTarget). matches target (args .link-id) (args .fee-id)) (c .before .target2 .given .1))
+returns-2 c = rw (c .before .target2 .given .1) refl
 
 returns-3 : tie.Need-returns-3
-returns-3 c =
-    let args = c .before .before .before .before .args in
-    c .is-match-feeid-layer-stave .ensures
-    ∙ sym (ap (λ (target : FilterTarget). matches target (args .link-id) (args .fee-id)) (c .before .before .target3 .given .1))
+returns-3 c = rw (c .before .before .target3 .given .1) (c .is-match-feeid-layer-stave .ensures)
 
 returns-4 : tie.Need-returns-4
 returns-4 c = search needs
