@@ -1,0 +1,42 @@
+-- What a scan answers, and the numbers and values of its refusals (document 01, "When the reader says no").
+use Prim.Native.Nat.{ℕ}
+use mathlib.Core.List.{List, [], _∷_}
+use lib.IntN.{ℤ, pos}
+use Rattle.basis.specs.Refusals.{Answer, gives, refuses}
+use Rattle.rdh.specs.declared.rdh_cru.RdhCru.{RdhCru}
+use Rattle.scan_cdp.specs.declared.BytePlace.{BytePlace}
+use Rattle.scan_cdp.specs.declared.Position.{Position}
+use Rattle.scan_cdp.specs.declared.Part.{Part}
+use Rattle.scan_cdp.specs.declared.Refusal.{Refusal}
+use Rattle.scan_cdp.specs.declared.Refusal.the-variants.{End, OffsetToNext, MemorySize, FeeIdsFull, NegativeSkip, Unusable}
+use Rattle.scan_cdp.specs.declared.LoadCdp.{LoadCdp}
+use Rattle.scan_cdp.specs.declared.LoadCdp.the-variants as Loads
+use Rattle.scan_cdp.specs.declared.Examined.{Examined}
+use Rattle.scan_cdp.specs.declared.Examined.the-variants.{Passed, Answered}
+
+-- What is found at a byte place: a header that is passed; one that is handed out, with its payload and the position of its load's start;
+-- or, on a window, a want for so many bytes from a byte place on. On the chain a payload is bytes, in a reply it is a part of the window.
+pub data Found (P : Type 0) : Type 0 where
+  passed : Found P
+  handed : (header : RdhCru) → (payload : P) → (position : Position) → Found P
+  wants : (place : BytePlace) → (size : ℕ) → Found P
+
+-- The number and the values of each refusal.
+abbrev pub refusal : {A : Type 0} → Refusal → Answer A
+refusal End = refuses 1 []
+refusal (OffsetToNext distance position) = refuses 2 (distance ∷ pos (position .0) ∷ [])
+refusal MemorySize = refuses 3 []
+refusal FeeIdsFull = refuses 4 []
+refusal NegativeSkip = refuses 5 []
+refusal Unusable = refuses 6 []
+
+-- What a load answers.
+abbrev pub loadAnswer : LoadCdp → Answer (Found Part)
+loadAnswer (Loads.Packet packet) = gives (handed (packet .rdh) (packet .payload) (packet .position))
+loadAnswer (Loads.Want place size) = gives (wants place size)
+loadAnswer (Loads.Refused r) = refusal r
+
+-- What an examination answers.
+abbrev pub answerOf : Examined → Answer (Found Part)
+answerOf Passed = gives passed
+answerOf (Answered a) = loadAnswer a

@@ -1,0 +1,7 @@
+pub mod Answers
+pub mod Turns
+pub mod TurnLaws
+pub mod Steps
+pub mod Windows
+pub mod Loads
+pub mod Moves

@@ -1,0 +1,233 @@
+-- The step of the chain: what document 01's steps 1 to 5 make of the header at the byte place, over a recording, with no window and no
+-- want. A recording shows itself to a step as the bytes from the byte place on, and as the place at which it ends.
+use Prim.Native.Nat.{ℕ, _+_, _^_, max}
+use mathlib.Core.Bool.{Bool, true, false, not, _||_, _&&_}
+use mathlib.Core.List.{List, [], _∷_}
+use lib.Dec.{eqb, ltb}
+use lib.IntN.{ℤ, pos, subℕ}
+use lib.ListN.{length, take, drop}
+use Rattle.basis.specs.Pick.{pick}
+use Rattle.basis.specs.Refusals.{Answer, gives, refuses}
+use Rattle.filter.specs.Filter.{enabled}
+use Rattle.rdh.specs.Subfields.{dataFormatOf}
+use Rattle.rdh.specs.declared.rdh_cru.RdhCru.{RdhCru}
+use Rattle.serde_rdh.specs.Layout.{decoded}
+use Rattle.stats.specs.Counts.{added, fullCount}
+use Rattle.stats.specs.Listed.{full, placesAfter, twice, usedAfter}
+use Rattle.stats.specs.declared.Count.{Count}
+use Rattle.scan_cdp.specs.Answers.{Found, handed, passed}
+use Rattle.scan_cdp.specs.Turns.{counted, feeId, handsOut, matched, memorySize, offset, payloadSize, turnOf}
+use Rattle.scan_cdp.specs.declared.BytePlace.{BytePlace}
+use Rattle.scan_cdp.specs.declared.Position.{Position}
+use Rattle.scan_cdp.specs.declared.Settings.{Settings}
+use Rattle.scan_cdp.specs.declared.OpenLoad.{OpenLoad}
+use Rattle.scan_cdp.specs.declared.OpenLoad.the-variants as Load
+use Rattle.scan_cdp.specs.declared.Counts.{Counts}
+use Rattle.scan_cdp.specs.declared.Progress.{Progress}
+use Rattle.scan_cdp.specs.declared.State.{State}
+use Rattle.scan_cdp.specs.declared.Initial.{Initial}
+use Rattle.scan_cdp.specs.declared.Initial.the-variants as Report
+use Rattle.scan_cdp.specs.declared.Marks.{Marks}
+use Rattle.scan_cdp.specs.declared.turn.Tally.{Tally}
+use Rattle.scan_cdp.specs.declared.turn.Turn.{Turn}
+use Rattle.scan_cdp.specs.declared.turn.Turn.the-variants.{FeeIdsFull, BadOffset, MemorySize, NegativeSkip, Passed, HandedOut}
+
+-- "Each turn adds an entry: passed, handed out [..] or refused [..], with its marks and what state and list then hold."
+pub record Entry (P : Type 0) : Type 0 where
+  pub answer : Answer (Found P)
+  pub marks : Marks
+  pub state : State
+  pub feeIds : List ℕ
+
+-- ---- step 1
+
+-- No place, position or window end is above it.
+abbrev pub limit : ℕ
+limit = 2 ^ 60
+
+-- Refusal 6 by state and list alone: "a place, position [..] above 2^60; a list's used number above its length; a link listed twice; seen,
+-- filtered or payload at 2^32 - 1 (all tested with statistics off too)".
+unfoldable pub unusable : State → List ℕ → Bool
+unusable s feeIds =
+    let p = s .progress in
+    ltb limit (p .place .0) || ltb limit (p .position .0)
+    || ltb (length (s .links)) (p .«links_used») || ltb (length feeIds) (p .«fee_ids_used»)
+    || twice (take (p .«links_used») (s .links))
+    || eqb (p .counts .seen) fullCount || eqb (p .counts .filtered) fullCount || eqb (p .counts .payload) fullCount
+
+abbrev pub noMarks : Marks
+noMarks = record { initial = Report.None; «seen_carry» = false; «filtered_carry» = false; «payload_carry» = false; «payload_cut» = false }
+
+-- A call that changes nothing.
+abbrev pub unchanged : {P : Type 0} → State → List ℕ → Answer (Found P) → Entry P
+unchanged s feeIds a = record { answer = a; marks = noMarks; state = s; feeIds = feeIds }
+
+-- Refusal 1: "byte place to the end unless already past it"; the load is closed.
+unfoldable pub ended : {P : Type 0} → State → List ℕ → ℕ → Entry P
+ended s feeIds end =
+    record {
+      answer = refuses 1 [];
+      marks = noMarks;
+      state = record {
+        progress = record {
+          place = record { 0 = max (s .progress .place .0) end };
+          position = s .progress .position;
+          load = Load.None;
+          counts = s .progress .counts;
+          «links_used» = s .progress .«links_used»;
+          «fee_ids_used» = s .progress .«fee_ids_used»;
+        };
+        links = s .links;
+      };
+      feeIds = feeIds;
+    }
+
+-- ---- step 2
+
+-- "First header of a load": no load is open.
+abbrev pub isFirst : OpenLoad → Bool
+isFirst Load.None = true
+isFirst (Load.From start) = false
+
+-- "Statistics off: [..] no refusal 4".
+unfoldable pub turn : Settings → Progress → List ℕ → RdhCru → Turn
+turn set p feeIds h = turnOf set (isFirst (p .load)) (set .stats && full (feeId h) (p .«fee_ids_used») feeIds) h
+
+-- "if statistics are on and the position is 0, the report is marked initial"; it "brings trigger type, data format and system id".
+unfoldable pub initialOf : Bool → Bool → Position → RdhCru → Initial
+initialOf stats first position h =
+    pick (stats && first && eqb (position .0) 0)
+    (Report.Report (h .rdh2 .«trigger_type») (dataFormatOf (h .«dataformat_reserved0» .0)) (h .rdh0 .«system_id»))
+    Report.None
+
+-- A count that grows by n if it is to be raised.
+unfoldable pub raised : Bool → ℕ → ℕ → Count
+raised due count n = pick due (added count n) (record { value = count; carry = false })
+
+-- The counts, and their carries: seen in step 2, filtered "if a filter is set" and payload in step 4. "Statistics off: [..] no counts".
+unfoldable pub tallied : Settings → Bool → Turn → Counts → RdhCru → Tally
+tallied set first t counts h =
+    record {
+      seen = raised (set .stats && counted first t) (counts .seen) 1;
+      filtered = raised (set .stats && enabled (set .filter) && matched t) (counts .filtered) 1;
+      payload = raised (set .stats && handsOut t) (counts .payload) (payloadSize h);
+    }
+
+-- ---- steps 3 to 5
+
+-- "A payload that is to be read and is cut by the recording's end": fewer than 64 plus its size are left from the byte place on.
+unfoldable pub cut : Bool → Turn → RdhCru → ℕ → Bool
+cut skip t h left = handsOut t && not skip && ltb left (64 + payloadSize h)
+
+-- "Handed out: [..] Reading payload, the byte place grows by the memory size; skipping payload, by the offset"; a cut payload moves it to
+-- the end. "A mismatch is passed: byte place and position grow by the offset." With refusals 2 to 5: "byte place + 64".
+unfoldable pub placeAfter : Bool → Turn → RdhCru → (place left end : ℕ) → ℕ
+placeAfter skip FeeIdsFull h place left end = place + 64
+placeAfter skip BadOffset h place left end = place + 64
+placeAfter skip MemorySize h place left end = place + 64
+placeAfter skip NegativeSkip h place left end = place + 64
+placeAfter skip Passed h place left end = place + offset h
+placeAfter skip HandedOut h place left end = pick skip (place + offset h) (pick (cut skip HandedOut h left) end (place + memorySize h))
+
+-- The position grows by the offset of a header that is passed or handed out.
+abbrev pub positionAfter : Turn → RdhCru → ℕ → ℕ
+positionAfter FeeIdsFull h position = position
+positionAfter BadOffset h position = position
+positionAfter MemorySize h position = position
+positionAfter NegativeSkip h position = position
+positionAfter Passed h position = position + offset h
+positionAfter HandedOut h position = position + offset h
+
+-- The position from the start of the load.
+abbrev pub startOf : OpenLoad → Position → Position
+startOf Load.None position = position
+startOf (Load.From start) position = start
+
+-- "After a packet or refusal 1 to 5 the next call starts a load": only a passed header leaves the load open.
+abbrev pub loadAfter : Turn → OpenLoad → Position → OpenLoad
+loadAfter FeeIdsFull load position = Load.None
+loadAfter BadOffset load position = Load.None
+loadAfter MemorySize load position = Load.None
+loadAfter NegativeSkip load position = Load.None
+loadAfter Passed load position = Load.From (startOf load position)
+loadAfter HandedOut load position = Load.None
+
+-- What is answered: refusal 2 with "offset - 64, signed, and position"; "The position given with the packet is the one from the start of
+-- the load."
+abbrev pub answerIn : {P : Type 0} → Turn → RdhCru → P → (start position : Position) → Answer (Found P)
+answerIn FeeIdsFull h payload start position = refuses 4 []
+answerIn BadOffset h payload start position = refuses 2 (subℕ (offset h) 64 ∷ pos (position .0) ∷ [])
+answerIn MemorySize h payload start position = refuses 3 []
+answerIn NegativeSkip h payload start position = refuses 5 []
+answerIn Passed h payload start position = gives passed
+answerIn HandedOut h payload start position = gives (handed h payload start)
+
+-- The payload's bytes behind the header. A payload that is skipped, or that is cut, "is handed out empty".
+unfoldable pub payloadOf : Bool → Turn → RdhCru → List ℕ → List ℕ
+payloadOf skip t h rest = pick (skip || cut skip t h (length rest)) [] (take (payloadSize h) (drop 64 rest))
+
+-- ---- the step
+
+-- The marks of a header: the initial one, the carries of the counts, and E100, which "is marked still" with statistics off.
+unfoldable pub marksOf : Settings → Turn → Progress → RdhCru → ℕ → Marks
+marksOf set t p h left =
+    let tally = tallied set (isFirst (p .load)) t (p .counts) h in
+    record {
+      initial = initialOf (set .stats) (isFirst (p .load)) (p .position) h;
+      «seen_carry» = tally .seen .carry;
+      «filtered_carry» = tally .filtered .carry;
+      «payload_carry» = tally .payload .carry;
+      «payload_cut» = cut (set .«skip_payload») t h left;
+    }
+
+-- Whether step 2 lists the link and the FEE id.
+abbrev pub lists : Settings → Turn → Progress → Bool
+lists set t p = set .stats && counted (isFirst (p .load)) t
+
+-- A list's places and its used number, after a number that step 2 lists.
+unfoldable pub placesListed : Bool → ℕ → ℕ → List ℕ → List ℕ
+placesListed due x used l = pick due (placesAfter x used l) l
+
+unfoldable pub usedListed : Bool → ℕ → ℕ → List ℕ → ℕ
+usedListed due x used l = pick due (usedAfter x used l) used
+
+-- How far the scan has come, with the used numbers of links and FEE ids.
+unfoldable pub progressAfter : Settings → Turn → Progress → RdhCru → (left end linksUsed feeIdsUsed : ℕ) → Progress
+progressAfter set t p h left end linksUsed feeIdsUsed =
+    let tally = tallied set (isFirst (p .load)) t (p .counts) h in
+    record {
+      place = record { 0 = placeAfter (set .«skip_payload») t h (p .place .0) left end };
+      position = record { 0 = positionAfter t h (p .position .0) };
+      load = loadAfter t (p .load) (p .position);
+      counts = record { seen = tally .seen .value; filtered = tally .filtered .value; payload = tally .payload .value };
+      «links_used» = linksUsed;
+      «fee_ids_used» = feeIdsUsed;
+    }
+
+-- The entry of a header that has an outcome.
+unfoldable pub entryOf : Settings → Turn → State → List ℕ → RdhCru → List ℕ → ℕ → Entry (List ℕ)
+entryOf set t s feeIds h rest end =
+    let p = s .progress in
+    record {
+      answer = answerIn t h (payloadOf (set .«skip_payload») t h rest) (startOf (p .load) (p .position)) (p .position);
+      marks = marksOf set t p h (length rest);
+      state = record {
+        progress =
+            progressAfter set t p h (length rest) end
+            (usedListed (lists set t p) (h .«link_id») (p .«links_used») (s .links))
+            (usedListed (lists set t p) (feeId h) (p .«fee_ids_used») feeIds);
+        links = placesListed (lists set t p) (h .«link_id») (p .«links_used») (s .links);
+      };
+      feeIds = placesListed (lists set t p) (feeId h) (p .«fee_ids_used») feeIds;
+    }
+
+-- The step: "Refusal 6, then [..] refusal 1", then what becomes of the header at the byte place.
+unfoldable pub step : Settings → State → List ℕ → (rest : List ℕ) → (end : ℕ) → Entry (List ℕ)
+step set s feeIds rest end =
+    pick (unusable s feeIds) (unchanged s feeIds (refuses 6 []))
+    (pick (ltb (length rest) 64) (ended s feeIds end)
+    (entryOf set (turn set (s .progress) feeIds (decoded rest)) s feeIds (decoded rest) rest end))
+
+-- The step at a state's byte place in a whole recording.
+abbrev pub stepIn : List ℕ → Settings → State → List ℕ → Entry (List ℕ)
+stepIn recording set s feeIds = step set s feeIds (drop (s .progress .place .0) recording) (length recording)

@@ -1,0 +1,75 @@
+-- What becomes of one header: steps 2 to 4 of document 01's "The chain and one examination", in their order.
+use Prim.Native.Nat.{ℕ, _-_}
+use mathlib.Core.Bool.{Bool, true, false, not, _||_, _&&_}
+use lib.Dec.{ltb}
+use Rattle.basis.specs.Pick.{pick}
+use Rattle.filter.specs.Filter.{matches, targetOf}
+use Rattle.rdh.specs.declared.rdh_cru.RdhCru.{RdhCru}
+use Rattle.scan_cdp.specs.declared.Settings.{Settings}
+use Rattle.scan_cdp.specs.declared.turn.Turn.{Turn}
+use Rattle.scan_cdp.specs.declared.turn.Turn.the-variants.{FeeIdsFull, BadOffset, MemorySize, NegativeSkip, Passed, HandedOut}
+
+-- The header's fields by document 01's names.
+abbrev pub offset : RdhCru → ℕ
+offset h = h .«offset_new_packet»
+
+abbrev pub memorySize : RdhCru → ℕ
+memorySize h = h .«memory_size»
+
+abbrev pub feeId : RdhCru → ℕ
+feeId h = h .rdh0 .«fee_id» .0
+
+-- "the payload size (memory size minus 64)"
+abbrev pub payloadSize : RdhCru → ℕ
+payloadSize h = memorySize h - 64
+
+-- Refusal 2: "offset below 64 or above 10,064".
+abbrev pub badOffset : ℕ → Bool
+badOffset n = ltb n 64 || ltb 10064 n
+
+-- Refusal 5: "the distance to skip is negative".
+unfoldable pub skipped : ℕ → Turn → Turn
+skipped n t = pick (ltb n 64) NegativeSkip t
+
+-- Steps 3 and 4. A mismatch is passed, which skips to the next header; a match has refusal 3, "memory size below 64"; and what is then
+-- handed out is skipped unless its payload is read.
+unfoldable pub filtered : Settings → RdhCru → Turn
+filtered set h =
+    pick (matches (targetOf (set .filter)) (h .«link_id») (feeId h))
+    (pick (ltb (memorySize h) 64) MemorySize (pick (set .«skip_payload») (skipped (offset h) HandedOut) HandedOut))
+    (skipped (offset h) Passed)
+
+-- Step 2, then the others. "First header of a load: [..] count (seen, link, FEE; refusal 4); then refusal 2. Later header of the same load:
+-- refusal 2 first, then count."
+unfoldable pub turnOf : Settings → (first full : Bool) → RdhCru → Turn
+turnOf set first full h =
+    pick first
+    (pick full FeeIdsFull (pick (badOffset (offset h)) BadOffset (filtered set h)))
+    (pick (badOffset (offset h)) BadOffset (pick full FeeIdsFull (filtered set h)))
+
+-- Whether step 2 counted the header: a later one that has refusal 2 was not counted.
+abbrev pub counted : Bool → Turn → Bool
+counted first FeeIdsFull = true
+counted first BadOffset = first
+counted first MemorySize = true
+counted first NegativeSkip = true
+counted first Passed = true
+counted first HandedOut = true
+
+-- Whether step 4 took the header as a match.
+abbrev pub matched : Turn → Bool
+matched FeeIdsFull = false
+matched BadOffset = false
+matched MemorySize = true
+matched NegativeSkip = false
+matched Passed = false
+matched HandedOut = true
+
+-- Whether step 5 hands the header out.
+abbrev pub handsOut : Turn → Bool
+handsOut FeeIdsFull = false
+handsOut BadOffset = false
+handsOut MemorySize = false
+handsOut NegativeSkip = false
+handsOut Passed = false
+handsOut HandedOut = true

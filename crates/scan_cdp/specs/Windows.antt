@@ -1,0 +1,56 @@
+-- One examination on a window: the step on what the window shows, or a want where the recording may go on behind it (document 01, "The
+-- chain and one examination").
+use Prim.Native.Nat.{ℕ, _+_, _-_}
+use mathlib.Core.Bool.{Bool, not, _||_, _&&_}
+use mathlib.Core.List.{List, []}
+use lib.Dec.{eqb, ltb}
+use lib.ListN.{length, take, drop}
+use Rattle.basis.specs.Pick.{pick}
+use Rattle.basis.specs.Refusals.{Answer, gives, refuses}
+use Rattle.serde_rdh.specs.Layout.{decoded}
+use Rattle.scan_cdp.specs.Answers.{Found, handed, passed, wants}
+use Rattle.scan_cdp.specs.Steps.{Entry, limit, step, unchanged, unusable}
+use Rattle.scan_cdp.specs.Turns.{payloadSize}
+use Rattle.scan_cdp.specs.declared.BytePlace.{BytePlace}
+use Rattle.scan_cdp.specs.declared.Part.{Part}
+use Rattle.scan_cdp.specs.declared.Settings.{Settings}
+use Rattle.scan_cdp.specs.declared.State.{State}
+
+-- Refusal 6 by the window: "window starts after the byte place; a [..] window end above 2^60".
+unfoldable pub outside : ℕ → ℕ → ℕ → Bool
+outside place first size = ltb place first || ltb limit (first + size)
+
+-- The bytes from a byte place on that a window shows.
+abbrev pub shown : ℕ → ℕ → List ℕ → List ℕ
+shown place first w = drop (place - first) w
+
+-- The part of a window that n bytes take from a start on. An empty part is at the window's start.
+unfoldable pub partAt : ℕ → ℕ → Part
+partAt start n = pick (eqb n 0) (record { start = 0; length = 0 }) (record { start = start; length = n })
+
+-- The bytes of a part of a window.
+unfoldable pub bytesAt : List ℕ → Part → List ℕ
+bytesAt w part = take (part .length) (drop (part .start) w)
+
+-- An answer whose payload is said as the part of the window that it is.
+abbrev pub placed : ℕ → Answer (Found (List ℕ)) → Answer (Found Part)
+placed start (gives passed) = gives passed
+placed start (gives (handed h payload position)) = gives (handed h (partAt start (length payload)) position)
+placed start (gives (wants place size)) = gives (wants place size)
+placed start (refuses number values) = refuses number values
+
+abbrev pub located : ℕ → Entry (List ℕ) → Entry Part
+located start e = record { answer = placed start (e .answer); marks = e .marks; state = e .state; feeIds = e .feeIds }
+
+-- "If bytes are lacking and the window isn't the last, the reply is a want (byte place, and 64 or 64 plus payload size) and nothing
+-- changes. Payload bytes are wanted only when payload is read and the header would otherwise be handed out": where the step would find the
+-- payload cut.
+unfoldable pub examined : Settings → State → List ℕ → (w : List ℕ) → (first : ℕ) → (last : Bool) → Entry Part
+examined set s feeIds w first last =
+    let place = s .progress .place in
+    let rest = shown (place .0) first w in
+    let e = step set s feeIds rest (first + length w) in
+    pick (unusable s feeIds || outside (place .0) first (length w)) (unchanged s feeIds (refuses 6 []))
+    (pick (not last && ltb (length rest) 64) (unchanged s feeIds (gives (wants place 64)))
+    (pick (not last && e .marks .«payload_cut») (unchanged s feeIds (gives (wants place (64 + payloadSize (decoded rest)))))
+    (located (place .0 + 64 - first) e)))

@@ -1,0 +1,106 @@
+// What a scan is asked for, keeps and answers, and what becomes of one header: the layer below the reading of a window.
+pub mod turn;
+
+use filter::FilterOpt;
+use rdh::rdh_cru::RdhCru;
+
+// A byte place in the recording, which the reading goes by.
+pub struct BytePlace(pub u64);
+
+// A reported position, which is printed and never read at: offsets alone move it.
+pub struct Position(pub u64);
+
+pub struct Settings {
+    pub filter: FilterOpt,
+    pub skip_payload: bool,
+    pub stats: bool,
+}
+
+// Whether a load is open, and the position that it started from. Only a header that was passed leaves one open.
+pub enum OpenLoad {
+    None,
+    From(Position),
+}
+
+// The three counts of a scan.
+pub struct Counts {
+    pub seen: u32,
+    pub filtered: u32,
+    pub payload: u32,
+}
+
+// How far a scan has come: all of its state but the links. The used numbers are those of the links and of the lent FEE ids.
+pub struct Progress {
+    pub place: BytePlace,
+    pub position: Position,
+    pub load: OpenLoad,
+    pub counts: Counts,
+    pub links_used: usize,
+    pub fee_ids_used: usize,
+}
+
+// The state that a scan keeps between two calls. The FEE ids are in a list that is lent.
+pub struct State {
+    pub progress: Progress,
+    pub links: [u8; 256],
+}
+
+// The mark of a load's first header at position 0, with what is assumed to be the same for the rest of the recording.
+pub enum Initial {
+    None,
+    Report(u32, u8, u8), // trigger type, data format, system id
+}
+
+// What is reported of one header: the initial mark, counts that were full, and a payload that the recording's end cut (E100).
+pub struct Marks {
+    pub initial: Initial,
+    pub seen_carry: bool,
+    pub filtered_carry: bool,
+    pub payload_carry: bool,
+    pub payload_cut: bool,
+}
+
+// What is reported of all headers that a load examined: the marks of each together, with the carries of seen as their number.
+pub struct LoadMarks {
+    pub initial: Initial,
+    pub seen_carries: u64,
+    pub filtered_carry: bool,
+    pub payload_carry: bool,
+    pub payload_cut: bool,
+}
+
+// A part of the window.
+pub struct Part {
+    pub start: usize,
+    pub length: usize,
+}
+
+// A packet: its header, where its payload is in the window, and the position at which its load started.
+pub struct Packet {
+    pub rdh: RdhCru,
+    pub payload: Part,
+    pub position: Position,
+}
+
+// Refusals 1 to 6.
+pub enum Refusal {
+    End,
+    OffsetToNext(i32, Position), // the offset less 64, and the position of the header
+    MemorySize,
+    FeeIdsFull,
+    NegativeSkip,
+    Unusable,
+}
+
+// What a load answers: a packet; a want for so many bytes from a place on; or a refusal.
+pub enum LoadCdp {
+    Packet(Packet),
+    Want(BytePlace, u64),
+    Refused(Refusal),
+}
+
+// What the examination of one header answers: it was passed, or it ends the load.
+pub enum Examined {
+    Passed,
+    Answered(LoadCdp),
+}
