@@ -1,0 +1,115 @@
+//! A scan: loads over a recording by the reference's `InputScanner`, and everything that it answers and reports.
+
+use crate::messages::Messages;
+use crate::placed::Placed;
+use crate::reading::{flag, hex, number, number_or_none, refuse};
+use alice_protocol_reader::config::filter::FilterOpt;
+use alice_protocol_reader::input_scanner::InputScanner;
+use alice_protocol_reader::rdh::{ByteSlice, RdhCru};
+use alice_protocol_reader::scan_cdp::ScanCDP;
+use std::fs::File;
+use std::io::{Error, ErrorKind, Result, Write};
+
+/// What a scan is asked to do.
+#[derive(Default)]
+pub struct Settings {
+    pub link: Option<u8>,
+    pub fee: Option<u16>,
+    pub stave: Option<u16>,
+    pub skip: bool,
+    pub stats: bool,
+    /// How many loads to go on for after a refusal.
+    pub more: u64,
+    /// How many loads there may be in all.
+    pub loads: Option<u64>,
+}
+
+impl Settings {
+    /// Words of the form key=value. Keys that only the port has are left alone.
+    pub fn read(words: &[&str]) -> Result<Self> {
+        let mut settings = Settings::default();
+        for word in words {
+            match word.split_once('=') {
+                Some(("link", value)) => settings.link = number_or_none(value)?,
+                Some(("fee", value)) => settings.fee = number_or_none(value)?,
+                Some(("stave", value)) => settings.stave = number_or_none(value)?,
+                Some(("skip", value)) => settings.skip = flag(value)?,
+                Some(("stats", value)) => settings.stats = flag(value)?,
+                Some(("more", value)) => settings.more = number(value)?,
+                Some(("loads", value)) => settings.loads = number_or_none(value)?,
+                Some(("window" | "places", _)) => {}
+                _ => return Err(refuse(format!("no setting of a scan: {word}"))),
+            }
+        }
+        Ok(settings)
+    }
+}
+
+impl FilterOpt for Settings {
+    fn skip_payload(&self) -> bool {
+        self.skip
+    }
+    fn filter_link(&self) -> Option<u8> {
+        self.link
+    }
+    fn filter_fee(&self) -> Option<u16> {
+        self.fee
+    }
+    fn filter_its_stave(&self) -> Option<u16> {
+        self.stave
+    }
+}
+
+/// Loads until a refusal, and `more` loads after it, and prints each load's answer, messages, byte place and position; at last the counts.
+pub fn scan(settings: &Settings, recording: File, out: &mut impl Write) -> Result<()> {
+    let (reader, place) = Placed::new(recording);
+    let (sender, receiver) = flume::unbounded();
+    let mut scanner = InputScanner::new(settings, Box::new(reader), settings.stats.then_some(sender));
+    let mut loads = settings.loads.unwrap_or(u64::MAX);
+    let mut more = settings.more;
+    while loads > 0 {
+        loads -= 1;
+        let answer = scanner.load_cdp::<RdhCru>();
+        let refused = answer.is_err();
+        let mut messages = Messages::from(receiver.try_iter());
+        messages.check(settings, &answer);
+        match answer {
+            Ok((rdh, payload, position)) => packet(&rdh, &payload, position, out)?,
+            Err(e) => refusal(&e, out)?,
+        }
+        messages.print(out)?;
+        writeln!(out, "place {}\nposition {}", place.now(), scanner.current_mem_pos())?;
+        if refused && more == 0 {
+            break;
+        }
+        more -= refused as u64;
+    }
+    // The counts are reported when the scanner is given back.
+    drop(scanner);
+    let [seen, filtered, payload] = Messages::from(receiver.try_iter()).counts();
+    writeln!(out, "counts {seen} {filtered} {payload}")
+}
+
+fn packet(rdh: &RdhCru, payload: &[u8], position: u64, out: &mut impl Write) -> Result<()> {
+    writeln!(out, "packet {position}\nheader {}", hex(rdh.to_byte_slice()))?;
+    match payload {
+        [] => writeln!(out, "payload 0"),
+        _ => writeln!(out, "payload {} {}", payload.len(), hex(payload)),
+    }
+}
+
+fn refusal(e: &Error, out: &mut impl Write) -> Result<()> {
+    let text = e.to_string();
+    match (e.kind(), offset_and_position(&text)) {
+        (ErrorKind::UnexpectedEof, _) => writeln!(out, "refused 1"),
+        (ErrorKind::InvalidData, Some((offset, position))) => writeln!(out, "refused 2 {offset} {position}"),
+        (kind, _) => writeln!(out, "unexpected: {kind:?} {text:?}"),
+    }
+}
+
+/// The two numbers in the text of a bad offset: `RDH offset to next is -1. \n[0x0]:\n..`.
+fn offset_and_position(text: &str) -> Option<(i64, u64)> {
+    let (offset, rest) = text.strip_prefix("RDH offset to next is ")?.split_once(". \n[0x")?;
+    let (position, _) = rest.split_once("]:")?;
+    Some((offset.parse().ok()?, u64::from_str_radix(position, 16).ok()?))
+}
