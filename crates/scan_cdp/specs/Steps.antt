@@ -5,7 +5,7 @@ use mathlib.Core.Bool.{Bool, true, false, not, _||_, _&&_}
 use mathlib.Core.List.{List, [], _∷_}
 use lib.Dec.{eqb, ltb}
 use lib.IntN.{ℤ, pos, subℕ}
-use lib.ListN.{length, take, drop}
+use lib.ListN.{length, take, drop, replicate}
 use Rattle.basis.specs.Pick.{pick}
 use Rattle.basis.specs.Refusals.{Answer, gives, refuses}
 use Rattle.filter.specs.Filter.{enabled}
@@ -38,6 +38,21 @@ pub record Entry (P : Type 0) : Type 0 where
   pub marks : Marks
   pub state : State
   pub feeIds : List ℕ
+
+-- The state of a scan that has not begun. "Both start at 0", byte place and position, and nothing is counted or listed.
+abbrev pub newState : State
+newState =
+    record {
+      progress = record {
+        place = record { 0 = 0 };
+        position = record { 0 = 0 };
+        load = Load.None;
+        counts = record { seen = 0; filtered = 0; payload = 0 };
+        «links_used» = 0;
+        «fee_ids_used» = 0;
+      };
+      links = replicate 256 0;
+    }
 
 -- ---- step 1
 

@@ -1,5 +1,7 @@
 // What a scan is asked for, keeps and answers, and what becomes of one header: the layer below the reading of a window.
 pub mod turn;
+ghost use mathlib.Core.Path.{_≡_};
+ghost use Rattle.scan_cdp.specs.Steps.{newState};
 
 use filter::FilterOpt;
 use rdh::rdh_cru::RdhCru;
@@ -43,6 +45,29 @@ pub struct Progress {
 pub struct State {
     pub progress: Progress,
     pub links: [u8; 256],
+}
+
+impl State {
+    // A scan that has not begun: everything is at 0.
+    pub fn new() -> State
+        ensures { λ r. ⌜ r ≡ newState ⌝ }
+    {
+        State {
+            progress: Progress {
+                place: BytePlace(0),
+                position: Position(0),
+                load: OpenLoad::None,
+                counts: Counts {
+                    seen: 0,
+                    filtered: 0,
+                    payload: 0,
+                },
+                links_used: 0,
+                fee_ids_used: 0,
+            },
+            links: [0; 256],
+        }
+    }
 }
 
 // The mark of a load's first header at position 0, with what is assumed to be the same for the rest of the recording.
