@@ -5,3 +5,4 @@ pub mod Steps
 pub mod Windows
 pub mod Loads
 pub mod Moves
+pub mod MoveLaws

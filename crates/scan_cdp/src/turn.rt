@@ -1,6 +1,6 @@
 // What becomes of one header: the refusals and the filter in their order, and what each outcome moves and counts.
 ghost use mathlib.Core.Path.{_≡_};
-ghost use Prim.Native.Nat.{_-_};
+ghost use Prim.Native.Nat.{_+_, _-_, _≤_};
 ghost use lib.IntN.{subℕ};
 ghost use Rattle.scan_cdp.specs.Answers.{answerOf, refusal};
 ghost use Rattle.scan_cdp.specs.Moves.{movedBy, positionBy, readSize};
@@ -205,7 +205,7 @@ pub fn part(start: usize, length: usize) -> Part
 
 // How far the byte place moves on.
 pub fn place_moved(skip: bool, turn: Turn, cut: bool, rdh: RdhCru, left: usize) -> usize
-    ensures { λ r. ⌜ r ≡ movedBy skip turn cut rdh left ⌝ }
+    ensures { λ r. ⌜ (r ≡ movedBy skip turn cut rdh left) × (r ≤ left + 65535) ⌝ }
 {
     match turn {
         Turn::FeeIdsFull => 64,
@@ -219,7 +219,7 @@ pub fn place_moved(skip: bool, turn: Turn, cut: bool, rdh: RdhCru, left: usize) 
 
 // How far it moves on behind a packet: after a payload was read by the memory size, and not by the offset; at a cut one to the end.
 fn read_moved(skip: bool, cut: bool, rdh: RdhCru, left: usize) -> usize
-    ensures { λ r. ⌜ r ≡ movedBy skip HandedOut cut rdh left ⌝ }
+    ensures { λ r. ⌜ (r ≡ movedBy skip HandedOut cut rdh left) × (r ≤ left + 65535) ⌝ }
 {
     if skip {
         return wide(rdh.offset_new_packet);
@@ -231,22 +231,22 @@ fn read_moved(skip: bool, cut: bool, rdh: RdhCru, left: usize) -> usize
 }
 
 fn wide(n: u16) -> usize
-    ensures { λ r. ⌜ r ≡ n ⌝ }
+    ensures { λ r. ⌜ (r ≡ n) × (r ≤ 65535) ⌝ }
 {
     n as usize
 }
 
 // How far the reported position moves on.
 pub fn position_moved(turn: Turn, rdh: RdhCru) -> u64
-    ensures { λ r. ⌜ r ≡ positionBy turn rdh ⌝ }
+    ensures { λ r. ⌜ (r ≡ positionBy turn rdh) × (r ≤ 65535) ⌝ }
 {
     match turn {
         Turn::FeeIdsFull => 0,
         Turn::BadOffset => 0,
         Turn::MemorySize => 0,
         Turn::NegativeSkip => 0,
-        Turn::Passed => rdh.offset_new_packet as u64,
-        Turn::HandedOut => rdh.offset_new_packet as u64,
+        Turn::Passed => wide(rdh.offset_new_packet) as u64,
+        Turn::HandedOut => wide(rdh.offset_new_packet) as u64,
     }
 }
 
