@@ -1,6 +1,6 @@
 -- A choice by a test: the first where the test holds, the second where it fails.
 use mathlib.Core.Path.{_≡_, refl, subst, ap}
-use mathlib.Core.Bool.{Bool, true, false}
+use mathlib.Core.Bool.{Bool, true, false, _||_, true≢false}
 
 abbrev pub pick {ℓ} : {A : Type ℓ} → Bool → A → A → A
 pick true x y = x
@@ -11,3 +11,8 @@ on x y e = ap (λ (b : Bool). pick b x y) e
 
 pub off {ℓ} : {A : Type ℓ} {b : Bool} (x y : A) → b ≡ false → pick b x y ≡ y
 off x y e = ap (λ (b : Bool). pick b x y) e
+
+-- Where one of two tests is to hold and the whole fails, both fail.
+pub neither : (a b : Bool) → (a || b) ≡ false → (a ≡ false) × (b ≡ false)
+neither true b e = absurd (true≢false e)
+neither false b e = (refl, e)
