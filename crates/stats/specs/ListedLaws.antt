@@ -1,15 +1,15 @@
--- Laws of lists: a search from the front, and a walk from the back for what is listed twice.
+-- Laws of lists: a search from the front, a walk from the back for what is listed twice, and what a number that is met leaves.
 use Prim.Native.Nat.{ℕ, zero, suc, _+_, _<_, _≤_, min}
-use mathlib.Core.Bool.{Bool, true, false, not, _||_, _&&_, or-true}
-use mathlib.Core.Path.{_≡_, refl, ap, sym, _∙_}
-use mathlib.Core.List.{List, [], _∷_}
+use mathlib.Core.Bool.{Bool, true, false, not, _||_, _&&_, or-true, and-eq-true-iff}
+use mathlib.Core.Path.{_≡_, refl, ap, ap₂, sym, _∙_}
+use mathlib.Core.List.{List, [], _∷_, _++_}
 use native.Mathlib.Omega.{arith}
 use native.Mathlib.Numerals.{add-one}
-use borrow.Author.Tests.{eq-eqb, ne-eqb, eqb-true, eqb-false, lt-ltb, le-ltb, le-leb, lt-leb}
+use borrow.Author.Tests.{eq-eqb, ne-eqb, eqb-true, eqb-false, lt-ltb, le-ltb, le-leb, lt-leb, ltb-true, not-true}
 use lib.Dec.{eqb, ltb}
 use lib.ListN.{length, take, drop, getD, set, replicate, length-take, length-set, getD-replicate, drop-of-length-le}
-use lib.Seq.{drop-cons, getD-take, getD-set-same, getD-set-other}
-use Rattle.basis.specs.Pick.{on, off}
+use lib.Seq.{drop-cons, getD-take, getD-set-same, getD-set-other, take-suc-set}
+use Rattle.basis.specs.Pick.{on, off, neither}
 use Rattle.stats.specs.Listed.{full, goesIn, member, placesAfter, twice, usedAfter}
 
 -- a search looks at one element, then at the rest
@@ -153,3 +153,59 @@ has-place x used l h = sym (ap (λ (b : Bool). b && not (member x (take used l))
 pub searched : (x used : ℕ) (l : List ℕ) → length l ≤ used → not (member x (take used l)) ≡ full x used l
 unfolding full
 searched x used l h = sym (ap (λ (b : Bool). b && not (member x (take used l))) (le-leb (length l) used h))
+
+-- ---- a number put behind a list
+
+-- what a list does not have, it does not have with another number behind it
+member-put : (y x : ℕ) (l : List ℕ) → member y l ≡ false → eqb y x ≡ false → member y (l ++ (x ∷ [])) ≡ false
+unfolding member
+member-put y x [] e other = ap (λ (b : Bool). b || false) other
+member-put y x (z ∷ l) e other =
+    let (here, later) = neither (eqb y z) (member y l) e in
+    ap₂ (λ (a : Bool) (b : Bool). a || b) here (member-put y x l later other)
+
+-- a list with nothing twice has nothing twice with a new number behind it
+twice-put : (x : ℕ) (l : List ℕ) → twice l ≡ false → member x l ≡ false → twice (l ++ (x ∷ [])) ≡ false
+unfolding member twice
+twice-put x [] once e = refl
+twice-put x (y ∷ l) once e =
+    let (other, later) = neither (eqb x y) (member x l) e in
+    let (alone, rest) = neither (member y l) (twice l) once in
+    let differs = ne-eqb y x (λ (same : y ≡ x). eqb-false x y other (sym same)) in
+    ap₂ (λ (a : Bool) (b : Bool). a || b) (member-put y x l alone differs) (twice-put x l rest later)
+
+-- After a number is met, the list is as long as before, and its used part lies in it and has nothing twice if it did so before.
+module _ (x used : ℕ) (l : List ℕ) where
+  goes : goesIn x used l ≡ true → (used < length l) × (member x (take used l) ≡ false)
+  goes e =
+      let (room, absent) = and-eq-true-iff (ltb used (length l)) (not (member x (take used l))) .0 e in
+      (ltb-true used (length l) room, not-true (member x (take used l)) absent)
+
+  pub length-places : length (placesAfter x used l) ≡ length l
+  length-places = met (goesIn x used l) refl
+    where
+      met : (b : Bool) → goesIn x used l ≡ b → length (placesAfter x used l) ≡ length l
+      met true e = let (room, absent) = goes e in sym (ap length (new x used l room absent .places)) ∙ length-set l used x
+      met false e = sym (ap length (stays x used l e .places))
+
+  pub used-kept : used ≤ length l → usedAfter x used l ≤ length (placesAfter x used l)
+  used-kept h = rw length-places (met (goesIn x used l) refl)
+    where
+      met : (b : Bool) → goesIn x used l ≡ b → usedAfter x used l ≤ length l
+      met true e = let (room, absent) = goes e in omega (arith, new x used l room absent .number)
+      met false e = omega (arith, stays x used l e .number)
+
+  pub once-kept : twice (take used l) ≡ false → twice (take (usedAfter x used l) (placesAfter x used l)) ≡ false
+  once-kept once = met (goesIn x used l) refl
+    where
+      met : (b : Bool) → goesIn x used l ≡ b → twice (take (usedAfter x used l) (placesAfter x used l)) ≡ false
+      met true e =
+          let (room, absent) = goes e in
+          let after = new x used l room absent in
+          sym (ap₂ (λ (n : ℕ) (t : List ℕ). twice (take n t)) (after .number) (after .places))
+          ∙ ap (λ (n : ℕ). twice (take n (set l used x))) (add-one used)
+          ∙ ap (λ (t : List ℕ). twice t) (take-suc-set l used x room)
+          ∙ twice-put x (take used l) once absent
+      met false e =
+          let same = stays x used l e in
+          sym (ap₂ (λ (n : ℕ) (t : List ℕ). twice (take n t)) (same .number) (same .places)) ∙ once
