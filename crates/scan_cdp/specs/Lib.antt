@@ -6,3 +6,4 @@ pub mod Windows
 pub mod Loads
 pub mod Moves
 pub mod MoveLaws
+pub mod WindowLaws

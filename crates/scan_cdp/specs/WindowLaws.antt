@@ -1,0 +1,114 @@
+-- Laws of an examination: which of its cases a window meets, and that the part of the window that is handed out holds the payload.
+use Prim.Native.Nat.{ℕ, _+_, _-_, _≤_, _<_, min}
+use mathlib.Core.Bool.{Bool, true, false, not, _||_, _&&_}
+use mathlib.Core.Path.{_≡_, refl, ap, sym, _∙_}
+use mathlib.Core.List.{List, []}
+use native.Mathlib.Omega.{arith}
+use borrow.Author.Tests.{lt-ltb, le-ltb, ltb-true, ltb-false}
+use lib.Dec.{eqb, ltb}
+use lib.ListN.{length, take, drop, length-take, length-drop}
+use Rattle.basis.specs.Pick.{on, off, pick}
+use Rattle.basis.specs.Refusals.{gives, refuses}
+use Rattle.rdh.specs.declared.rdh_cru.RdhCru.{RdhCru}
+use Rattle.serde_rdh.specs.Layout.{decoded}
+use Rattle.scan_cdp.specs.Answers.{wants}
+use Rattle.scan_cdp.specs.Moves.{readSize}
+use Rattle.scan_cdp.specs.Steps.{Entry, answerIn, cut, ended, entryOf, marksOf, payloadOf, step, turn, unchanged, unusable}
+use Rattle.scan_cdp.specs.Turns.{payloadSize}
+use Rattle.scan_cdp.specs.Windows.{examined, located, outside, partAt, placed, shown}
+use Rattle.scan_cdp.specs.declared.Part.{Part}
+use Rattle.scan_cdp.specs.declared.Position.{Position}
+use Rattle.scan_cdp.specs.declared.Settings.{Settings}
+use Rattle.scan_cdp.specs.declared.State.{State}
+use Rattle.scan_cdp.specs.declared.turn.Turn.{Turn}
+use Rattle.scan_cdp.specs.declared.turn.Turn.the-variants.{FeeIdsFull, BadOffset, MemorySize, NegativeSkip, Passed, HandedOut}
+
+-- ---- the payload
+
+read-whole : (h : RdhCru) (rest : List ℕ) (short : Bool) → ltb (length rest) (64 + payloadSize h) ≡ short
+    → length (pick short [] (take (payloadSize h) (drop 64 rest))) ≡ pick short 0 (payloadSize h)
+read-whole h rest true e = refl
+read-whole h rest false e =
+    length-take (payloadSize h) (drop 64 rest)
+    ∙ omega (arith, length-drop 64 rest, ltb-false (length rest) (64 + payloadSize h) e)
+
+-- As many bytes of a payload are handed out as are read.
+payload-length : (skip : Bool) (h : RdhCru) (rest : List ℕ)
+    → length (payloadOf skip HandedOut h rest) ≡ readSize skip (cut skip HandedOut h (length rest)) h
+unfolding payloadOf readSize cut
+payload-length true h rest = refl
+payload-length false h rest = read-whole h rest (ltb (length rest) (64 + payloadSize h)) refl
+
+-- The answer with the payload as the part of the window that it is.
+pub placed-answer : (start : ℕ) (skip : Bool) (t : Turn) (h : RdhCru) (rest : List ℕ) (from position : Position)
+    → placed start (answerIn t h (payloadOf skip t h rest) from position)
+    ≡ answerIn t h (partAt start (readSize skip (cut skip t h (length rest)) h)) from position
+placed-answer start skip FeeIdsFull h rest from position = refl
+placed-answer start skip BadOffset h rest from position = refl
+placed-answer start skip MemorySize h rest from position = refl
+placed-answer start skip NegativeSkip h rest from position = refl
+placed-answer start skip Passed h rest from position = refl
+placed-answer start skip HandedOut h rest from position =
+    ap (λ (n : ℕ). answerIn HandedOut h (partAt start n) from position) (payload-length skip h rest)
+
+-- ---- the cases of the step
+
+pub step-ended : (set : Settings) (s : State) (feeIds rest : List ℕ) (end : ℕ) → unusable s feeIds ≡ false → length rest < 64
+    → step set s feeIds rest end ≡ ended s feeIds end
+unfolding step
+step-ended set s feeIds rest end usable short = off _ _ usable ∙ on _ _ (lt-ltb (length rest) 64 short)
+
+pub step-header : (set : Settings) (s : State) (feeIds rest : List ℕ) (end : ℕ) → unusable s feeIds ≡ false → 64 ≤ length rest
+    → step set s feeIds rest end ≡ entryOf set (turn set (s .progress) feeIds (decoded rest)) s feeIds (decoded rest) rest end
+unfolding step
+step-header set s feeIds rest end usable whole = off _ _ usable ∙ off _ _ (le-ltb (length rest) 64 whole)
+
+-- ---- the cases of an examination
+
+module _ (set : Settings) (s : State) (feeIds w : List ℕ) (first : ℕ) (last : Bool) where
+  abbrev pub place : ℕ
+  place = s .progress .place .0
+
+  abbrev pub rest : List ℕ
+  rest = shown place first w
+
+  abbrev pub entry : Entry (List ℕ)
+  entry = step set s feeIds rest (first + length w)
+
+  pub refused-6 : (unusable s feeIds || outside place first (length w)) ≡ true
+      → examined set s feeIds w first last ≡ unchanged s feeIds (refuses 6 [])
+  unfolding examined
+  refused-6 e = on _ _ e
+
+  module _ (usable : unusable s feeIds ≡ false) (inside : outside place first (length w) ≡ false) where
+    no-6 : (unusable s feeIds || outside place first (length w)) ≡ false
+    no-6 = λ i. usable i || inside i
+
+    -- fewer than 64 bytes: a want, or refusal 1
+    pub examined-short : length rest < 64
+        → examined set s feeIds w first last
+        ≡ pick last (ended s feeIds (first + length w)) (unchanged s feeIds (gives (wants (s .progress .place) 64)))
+    unfolding examined ended
+    examined-short short = off _ _ no-6 ∙ by-last last
+      where
+        by-last : (b : Bool)
+            → pick (not b && ltb (length rest) 64) (unchanged s feeIds (gives (wants (s .progress .place) 64)))
+            (pick (not b && entry .marks .«payload_cut»)
+            (unchanged s feeIds (gives (wants (s .progress .place) (64 + payloadSize (decoded rest)))))
+            (located (place + 64 - first) entry))
+            ≡ pick b (ended s feeIds (first + length w)) (unchanged s feeIds (gives (wants (s .progress .place) 64)))
+        by-last true = ap (λ (e : Entry (List ℕ)). located (place + 64 - first) e) (step-ended set s feeIds rest (first + length w) usable short)
+        by-last false = on _ _ (lt-ltb (length rest) 64 short)
+
+    -- a header: a want for its payload, or the step
+    pub examined-header : 64 ≤ length rest
+        → examined set s feeIds w first last
+        ≡ pick (not last && entry .marks .«payload_cut»)
+        (unchanged s feeIds (gives (wants (s .progress .place) (64 + payloadSize (decoded rest)))))
+        (located (place + 64 - first) entry)
+    unfolding examined
+    examined-header whole = off _ _ no-6 ∙ off _ _ (neither last)
+      where
+        neither : (b : Bool) → (not b && ltb (length rest) 64) ≡ false
+        neither true = refl
+        neither false = le-ltb (length rest) 64 whole
