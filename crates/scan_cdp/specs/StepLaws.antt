@@ -1,0 +1,338 @@
+-- Laws of one examination: what holds of the outcome, of a state that refusal 6 lets through, and of what an examination leaves.
+use Prim.Native.Nat.{ℕ, _+_, _-_, _<_, _≤_}
+use mathlib.Core.Bool.{Bool, true, false, not, _||_, _&&_, false≢true}
+use mathlib.Core.List.{List, []}
+use mathlib.Core.Path.{_≡_, refl, ap, subst, subst₂, sym, _∙_}
+use native.Mathlib.Omega.{arith}
+use borrow.Author.Tests.{eqb-false, ltb-false, ltb-true}
+use lib.Dec.{ltb}
+use lib.ListN.{length, take, length-drop}
+use Rattle.basis.specs.Pick.{by-test, neither, off, on, pick}
+use Rattle.basis.specs.Refusals.{gives, refuses}
+use Rattle.filter.specs.Filter.{matches, targetOf}
+use Rattle.rdh.specs.declared.rdh_cru.RdhCru.{RdhCru}
+use Rattle.serde_rdh.specs.Layout.{decoded}
+use Rattle.stats.specs.Counts.{fullCount}
+use Rattle.stats.specs.Listed.{twice}
+use Rattle.stats.specs.ListedLaws.{length-places, once-kept, used-kept}
+use Rattle.scan_cdp.specs.Answers.{wants}
+use Rattle.scan_cdp.specs.Loads.{isPassed}
+use Rattle.scan_cdp.specs.Steps.{Entry, answerIn, ended, entryOf, limit, placeAfter, placesListed, progressAfter, step, turn, unchanged, unusable, usedListed}
+use Rattle.scan_cdp.specs.Turns.{badOffset, feeId, filtered, memorySize, offset, payloadSize, skipped, turnOf}
+use Rattle.scan_cdp.specs.Windows.{examined, located, outside, placed, shown}
+use Rattle.scan_cdp.specs.declared.Part.{Part}
+use Rattle.scan_cdp.specs.declared.Position.{Position}
+use Rattle.scan_cdp.specs.declared.Settings.{Settings}
+use Rattle.scan_cdp.specs.declared.State.{State}
+use Rattle.scan_cdp.specs.declared.turn.Turn.{Turn}
+use Rattle.scan_cdp.specs.declared.turn.Turn.the-variants.{FeeIdsFull, BadOffset, MemorySize, NegativeSkip, Passed, HandedOut}
+
+-- ---- the outcome
+
+-- An offset that refusal 2 lets through.
+pub record GoodOffset (h : RdhCru) : Type 0 where
+  pub least : 64 ≤ offset h
+  pub most : offset h ≤ 10064
+
+good-offset : (h : RdhCru) → badOffset (offset h) ≡ false → GoodOffset h
+good-offset h e =
+    let (least, most) = neither (ltb (offset h) 64) (ltb 10064 (offset h)) e in
+    record { least = ltb-false (offset h) 64 least; most = ltb-false 10064 (offset h) most }
+
+-- What is known of a header by its outcome.
+abbrev pub Known : RdhCru → Turn → Type 0
+Known h FeeIdsFull = Unit {0}
+Known h BadOffset = Unit {0}
+Known h MemorySize = GoodOffset h
+Known h NegativeSkip = ⊥
+Known h Passed = GoodOffset h
+Known h HandedOut = GoodOffset h × 64 ≤ memorySize h
+
+skipped-known : (h : RdhCru) (t : Turn) → GoodOffset h → Known h t → Known h (skipped (offset h) t)
+unfolding skipped
+skipped-known h t good k =
+    by-test (Known h) (ltb (offset h) 64) NegativeSkip t (λ e. omega (arith, ltb-true (offset h) 64 e, good .least)) (λ e. k)
+
+filtered-known : (set : Settings) (h : RdhCru) → GoodOffset h → Known h (filtered set h)
+unfolding filtered
+filtered-known set h good =
+    by-test (Known h) (matches (targetOf (set .filter)) (h .«link_id») (feeId h)) _ _
+    (λ taken.
+    by-test (Known h) (ltb (memorySize h) 64) _ _ (λ small. good) (λ large.
+    let both : GoodOffset h × 64 ≤ memorySize h = (good, ltb-false (memorySize h) 64 large) in
+    by-test (Known h) (set .«skip_payload») _ _ (λ skip. skipped-known h HandedOut good both) (λ read. both)))
+    (λ other. skipped-known h Passed good good)
+
+pub known : (set : Settings) (first full : Bool) (h : RdhCru) → Known h (turnOf set first full h)
+unfolding turnOf
+known set first full h =
+    let good : badOffset (offset h) ≡ false → Known h (filtered set h) = λ e. filtered-known set h (good-offset h e) in
+    by-test (Known h) first _ _
+    (λ one. by-test (Known h) full _ _ (λ e. tt) (λ e. by-test (Known h) (badOffset (offset h)) _ _ (λ bad. tt) good))
+    (λ later. by-test (Known h) (badOffset (offset h)) _ _ (λ bad. tt) (λ fine. by-test (Known h) full _ _ (λ e. tt) (λ e. good fine)))
+
+-- Refusal 5 is never met: what is skipped has an offset that refusal 2 let through.
+pub never-negative : (set : Settings) (first full : Bool) (h : RdhCru) → turnOf set first full h ≡ NegativeSkip → ⊥
+never-negative set first full h e = subst (Known h) e (known set first full h)
+
+pub passed-offset : (set : Settings) (first full : Bool) (h : RdhCru) → turnOf set first full h ≡ Passed → GoodOffset h
+passed-offset set first full h e = subst (Known h) e (known set first full h)
+
+pub handed-out-sizes : (set : Settings) (first full : Bool) (h : RdhCru) → turnOf set first full h ≡ HandedOut
+    → GoodOffset h × 64 ≤ memorySize h
+handed-out-sizes set first full h e = subst (Known h) e (known set first full h)
+
+-- ---- a state and a list that refusal 6 lets through
+
+pub record Usable (s : State) (feeIds : List ℕ) : Type 0 where
+  pub place : s .progress .place .0 ≤ limit
+  pub position : s .progress .position .0 ≤ limit
+  pub links-used : s .progress .«links_used» ≤ length (s .links)
+  pub fee-ids-used : s .progress .«fee_ids_used» ≤ length feeIds
+  pub once : twice (take (s .progress .«links_used») (s .links)) ≡ false
+  pub seen : s .progress .counts .seen ≡ fullCount → ⊥
+  pub filtered : s .progress .counts .filtered ≡ fullCount → ⊥
+  pub payload : s .progress .counts .payload ≡ fullCount → ⊥
+
+pub usable : (s : State) (feeIds : List ℕ) → unusable s feeIds ≡ false → Usable s feeIds
+unfolding unusable
+usable s feeIds e =
+    let p = s .progress in
+    let (e₇, payload) = neither _ _ e in
+    let (e₆, filtered) = neither _ _ e₇ in
+    let (e₅, seen) = neither _ _ e₆ in
+    let (e₄, once) = neither _ _ e₅ in
+    let (e₃, feeIdsUsed) = neither _ _ e₄ in
+    let (e₂, linksUsed) = neither _ _ e₃ in
+    let (place, position) = neither _ _ e₂ in
+    record {
+      place = ltb-false limit (p .place .0) place;
+      position = ltb-false limit (p .position .0) position;
+      links-used = ltb-false (length (s .links)) (p .«links_used») linksUsed;
+      fee-ids-used = ltb-false (length feeIds) (p .«fee_ids_used») feeIdsUsed;
+      once = once;
+      seen = eqb-false (p .counts .seen) fullCount seen;
+      filtered = eqb-false (p .counts .filtered) fullCount filtered;
+      payload = eqb-false (p .counts .payload) fullCount payload;
+    }
+
+-- ---- the cases of an examination
+
+-- State, list and window that refusal 6 lets through.
+pub record Admitted (s : State) (feeIds w : List ℕ) (first : ℕ) : Type 0 where
+  pub state : unusable s feeIds ≡ false
+  pub window : outside (s .progress .place .0) first (length w) ≡ false
+
+-- The bytes from a state's byte place on that a window shows.
+abbrev pub shownTo : State → (w : List ℕ) → (first : ℕ) → List ℕ
+shownTo s w first = shown (s .progress .place .0) first w
+
+-- The entry of the header at the start of some bytes.
+abbrev pub entryAt : Settings → State → List ℕ → (rest : List ℕ) → (end : ℕ) → Entry (List ℕ)
+entryAt set s feeIds rest end = entryOf set (turn set (s .progress) feeIds (decoded rest)) s feeIds (decoded rest) rest end
+
+step-ends : (set : Settings) (s : State) (feeIds rest : List ℕ) (end : ℕ) → unusable s feeIds ≡ false → ltb (length rest) 64 ≡ true
+    → step set s feeIds rest end ≡ ended s feeIds end
+unfolding step
+step-ends set s feeIds rest end fine short = off _ _ fine ∙ on _ _ short
+
+step-enters : (set : Settings) (s : State) (feeIds rest : List ℕ) (end : ℕ) → unusable s feeIds ≡ false → ltb (length rest) 64 ≡ false
+    → step set s feeIds rest end ≡ entryAt set s feeIds rest end
+unfolding step
+step-enters set s feeIds rest end fine long = off _ _ fine ∙ off _ _ long
+
+-- A want for so many bytes.
+abbrev pub wanting : State → List ℕ → ℕ → Entry Part
+wanting s feeIds size = unchanged s feeIds (gives (wants (s .progress .place) size))
+
+-- The examination behind refusal 6: a want for a header, a want for a header with its payload, or the step's entry.
+abbrev reply : (last short : Bool) → State → List ℕ → (size start : ℕ) → Entry (List ℕ) → Entry Part
+reply last short s feeIds size start e =
+    pick (not last && short) (wanting s feeIds 64)
+    (pick (not last && e .marks .«payload_cut») (wanting s feeIds size) (located start e))
+
+reply-short : (P : Entry Part → Type 0) (last : Bool) (s : State) (feeIds : List ℕ) (size start : ℕ) (e : Entry (List ℕ))
+    → (last ≡ false → P (wanting s feeIds 64)) → (last ≡ true → P (located start e)) → P (reply last true s feeIds size start e)
+reply-short P true s feeIds size start e wanted found = found refl
+reply-short P false s feeIds size start e wanted found = wanted refl
+
+reply-long : (P : Entry Part → Type 0) (last : Bool) (s : State) (feeIds : List ℕ) (size start : ℕ) (e : Entry (List ℕ))
+    → (last ≡ false → e .marks .«payload_cut» ≡ true → P (wanting s feeIds size))
+    → ((not last && e .marks .«payload_cut») ≡ false → P (located start e)) → P (reply last false s feeIds size start e)
+reply-long P true s feeIds size start e wanted found = found refl
+reply-long P false s feeIds size start e wanted found = by-test P (e .marks .«payload_cut») _ _ (wanted refl) found
+
+-- What holds of the entry in each of five cases holds of the examination.
+pub examined-cases : (set : Settings) (s : State) (feeIds w : List ℕ) (first : ℕ) (last : Bool) (P : Entry Part → Type 0)
+    → ((unusable s feeIds || outside (s .progress .place .0) first (length w)) ≡ true → P (unchanged s feeIds (refuses 6 [])))
+    → (Admitted s feeIds w first → length (shownTo s w first) < 64 → last ≡ false → P (wanting s feeIds 64))
+    → (Admitted s feeIds w first → length (shownTo s w first) < 64 → last ≡ true
+    → P (located (s .progress .place .0 + 64 - first) (ended s feeIds (first + length w))))
+    → (Admitted s feeIds w first → 64 ≤ length (shownTo s w first) → last ≡ false
+    → entryAt set s feeIds (shownTo s w first) (first + length w) .marks .«payload_cut» ≡ true
+    → P (wanting s feeIds (64 + payloadSize (decoded (shownTo s w first)))))
+    → (Admitted s feeIds w first → 64 ≤ length (shownTo s w first)
+    → (not last && entryAt set s feeIds (shownTo s w first) (first + length w) .marks .«payload_cut») ≡ false
+    → P (located (s .progress .place .0 + 64 - first) (entryAt set s feeIds (shownTo s w first) (first + length w))))
+    → P (examined set s feeIds w first last)
+unfolding examined
+examined-cases set s feeIds w first last P six short ends cuts enters =
+    by-test P (unusable s feeIds || outside (s .progress .place .0) first (length w)) _ _ six (λ fine.
+    let (state, window) = neither (unusable s feeIds) (outside (s .progress .place .0) first (length w)) fine in
+    behind (record { state = state; window = window }) (ltb (length (shownTo s w first)) 64) refl)
+  where
+    behind : Admitted s feeIds w first → (b : Bool) → ltb (length (shownTo s w first)) 64 ≡ b
+        → P (reply last (ltb (length (shownTo s w first)) 64) s feeIds (64 + payloadSize (decoded (shownTo s w first)))
+        (s .progress .place .0 + 64 - first) (step set s feeIds (shownTo s w first) (first + length w)))
+    behind a true e =
+        let rest = shownTo s w first in
+        let size = 64 + payloadSize (decoded rest) in
+        let start = s .progress .place .0 + 64 - first in
+        let below = ltb-true (length rest) 64 e in
+        subst₂ (λ (b : Bool) (x : Entry (List ℕ)). P (reply last b s feeIds size start x)) (sym e)
+        (sym (step-ends set s feeIds rest (first + length w) (a .state) e))
+        (reply-short P last s feeIds size start (ended s feeIds (first + length w)) (short a below) (ends a below))
+    behind a false e =
+        let rest = shownTo s w first in
+        let size = 64 + payloadSize (decoded rest) in
+        let start = s .progress .place .0 + 64 - first in
+        let above = ltb-false (length rest) 64 e in
+        subst₂ (λ (b : Bool) (x : Entry (List ℕ)). P (reply last b s feeIds size start x)) (sym e)
+        (sym (step-enters set s feeIds rest (first + length w) (a .state) e))
+        (reply-long P last s feeIds size start (entryAt set s feeIds rest (first + length w)) (cuts a above) (enters a above))
+
+-- ---- the lists that an examination leaves
+
+length-listed : (due : Bool) (x used : ℕ) (l : List ℕ) → length (placesListed due x used l) ≡ length l
+unfolding placesListed
+length-listed true x used l = length-places x used l
+length-listed false x used l = refl
+
+used-listed : (due : Bool) (x used : ℕ) (l : List ℕ) → used ≤ length l → usedListed due x used l ≤ length (placesListed due x used l)
+unfolding placesListed usedListed
+used-listed true x used l h = used-kept x used l h
+used-listed false x used l h = h
+
+once-listed : (due : Bool) (x used : ℕ) (l : List ℕ) → twice (take used l) ≡ false
+    → twice (take (usedListed due x used l) (placesListed due x used l)) ≡ false
+unfolding placesListed usedListed
+once-listed true x used l once = once-kept x used l once
+once-listed false x used l once = once
+
+-- The lists are as long as before.
+pub record SameLengths (s : State) (feeIds : List ℕ) (e : Entry Part) : Type 0 where
+  pub links : length (e .state .links) ≡ length (s .links)
+  pub fee-ids : length (e .feeIds) ≡ length feeIds
+
+pub examined-lengths : (set : Settings) (s : State) (feeIds w : List ℕ) (first : ℕ) (last : Bool)
+    → SameLengths s feeIds (examined set s feeIds w first last)
+unfolding ended entryOf
+examined-lengths set s feeIds w first last =
+    examined-cases set s feeIds w first last (SameLengths s feeIds)
+    (λ e. record { links = refl; fee-ids = refl })
+    (λ a b e. record { links = refl; fee-ids = refl })
+    (λ a b e. record { links = refl; fee-ids = refl })
+    (λ a b e f. record { links = refl; fee-ids = refl })
+    (λ a b e. record { links = length-listed _ _ _ (s .links); fee-ids = length-listed _ _ _ feeIds })
+
+-- Used numbers lie in the lists, and no link is listed twice.
+pub record InOrder (e : Entry Part) : Type 0 where
+  pub links-used : e .state .progress .«links_used» ≤ length (e .state .links)
+  pub fee-ids-used : e .state .progress .«fee_ids_used» ≤ length (e .feeIds)
+  pub once : twice (take (e .state .progress .«links_used») (e .state .links)) ≡ false
+
+entry-in-order : (set : Settings) (t : Turn) (s : State) (feeIds : List ℕ) (h : RdhCru) (rest : List ℕ) (end start : ℕ) → Usable s feeIds
+    → InOrder (located start (entryOf set t s feeIds h rest end))
+unfolding entryOf progressAfter
+entry-in-order set t s feeIds h rest end start u =
+    record {
+      links-used = used-listed _ (h .«link_id») (s .progress .«links_used») (s .links) (u .links-used);
+      fee-ids-used = used-listed _ (feeId h) (s .progress .«fee_ids_used») feeIds (u .fee-ids-used);
+      once = once-listed _ (h .«link_id») (s .progress .«links_used») (s .links) (u .once);
+    }
+
+-- ---- how far an examination moves the byte place
+
+-- A header that a window shows.
+pub record Shown (place first size : ℕ) : Type 0 where
+  pub starts : first ≤ place
+  pub ends : place + 64 ≤ first + size
+
+is-shown : (s : State) (feeIds w : List ℕ) (first : ℕ) → Admitted s feeIds w first → 64 ≤ length (shownTo s w first)
+    → Shown (s .progress .place .0) first (length w)
+unfolding outside
+is-shown s feeIds w first a h =
+    let place = s .progress .place .0 in
+    let (starts, ends) = neither (ltb place first) (ltb limit (first + length w)) (a .window) in
+    let begins = ltb-false place first starts in
+    record { starts = begins; ends = omega (arith, begins, h, length-drop (place - first) w) }
+
+turn-known : (set : Settings) (s : State) (feeIds : List ℕ) (h : RdhCru) → Known h (turn set (s .progress) feeIds h)
+unfolding turn
+turn-known set s feeIds h = known set _ _ h
+
+-- an answer that a header was passed has that outcome
+only-passed : (t : Turn) (h : RdhCru) (payload : List ℕ) (from position : Position) (start : ℕ)
+    → isPassed (placed start (answerIn t h payload from position)) ≡ true → t ≡ Passed
+only-passed FeeIdsFull h payload from position start e = absurd (false≢true e)
+only-passed BadOffset h payload from position start e = absurd (false≢true e)
+only-passed MemorySize h payload from position start e = absurd (false≢true e)
+only-passed NegativeSkip h payload from position start e = absurd (false≢true e)
+only-passed Passed h payload from position start e = refl
+only-passed HandedOut h payload from position start e = absurd (false≢true e)
+
+place-passed : (skip : Bool) (t : Turn) (h : RdhCru) (place left end : ℕ) → t ≡ Passed → placeAfter skip t h place left end ≡ place + offset h
+unfolding placeAfter
+place-passed skip t h place left end e = ap (λ (u : Turn). placeAfter skip u h place left end) e
+
+-- What an examination that passed a header found, and what it left.
+pub record PassedOn (s : State) (feeIds w : List ℕ) (first : ℕ) (e : Entry Part) : Type 0 where
+  pub state : unusable s feeIds ≡ false
+  pub starts : first ≤ s .progress .place .0
+  pub ends : s .progress .place .0 + 64 ≤ first + length w
+  pub least : s .progress .place .0 + 64 ≤ e .state .progress .place .0
+  pub most : e .state .progress .place .0 ≤ s .progress .place .0 + 10064
+  pub links : length (e .state .links) ≡ length (s .links)
+  pub fee-ids : length (e .feeIds) ≡ length feeIds
+  pub links-used : e .state .progress .«links_used» ≤ length (e .state .links)
+  pub fee-ids-used : e .state .progress .«fee_ids_used» ≤ length (e .feeIds)
+  pub once : twice (take (e .state .progress .«links_used») (e .state .links)) ≡ false
+
+entry-passed : (set : Settings) (s : State) (feeIds w : List ℕ) (first : ℕ) (start : ℕ) → Admitted s feeIds w first
+    → 64 ≤ length (shownTo s w first)
+    → isPassed (located start (entryAt set s feeIds (shownTo s w first) (first + length w)) .answer) ≡ true
+    → PassedOn s feeIds w first (located start (entryAt set s feeIds (shownTo s w first) (first + length w)))
+unfolding entryOf progressAfter
+entry-passed set s feeIds w first start a long e =
+    let p = s .progress in
+    let rest = shownTo s w first in
+    let h = decoded rest in
+    let t = turn set p feeIds h in
+    let is : t ≡ Passed = only-passed t h _ _ _ start e in
+    let good : GoodOffset h = subst (Known h) is (turn-known set s feeIds h) in
+    let place = place-passed (set .«skip_payload») t h (p .place .0) (length rest) (first + length w) is in
+    let shows = is-shown s feeIds w first a long in
+    let order = entry-in-order set t s feeIds h rest (first + length w) start (usable s feeIds (a .state)) in
+    record {
+      state = a .state;
+      starts = shows .starts;
+      ends = shows .ends;
+      least = omega (arith, place, good .least);
+      most = omega (arith, place, good .most);
+      links = length-listed _ _ _ (s .links);
+      fee-ids = length-listed _ _ _ feeIds;
+      links-used = order .links-used;
+      fee-ids-used = order .fee-ids-used;
+      once = order .once;
+    }
+
+pub examined-passed : (set : Settings) (s : State) (feeIds w : List ℕ) (first : ℕ) (last : Bool)
+    → isPassed (examined set s feeIds w first last .answer) ≡ true → PassedOn s feeIds w first (examined set s feeIds w first last)
+unfolding ended
+examined-passed set s feeIds w first last =
+    examined-cases set s feeIds w first last (λ e. isPassed (e .answer) ≡ true → PassedOn s feeIds w first e)
+    (λ six e. absurd (false≢true e))
+    (λ a short more e. absurd (false≢true e))
+    (λ a short all e. absurd (false≢true e))
+    (λ a long more cuts e. absurd (false≢true e))
+    (λ a long whole e. entry-passed set s feeIds w first (s .progress .place .0 + 64 - first) a long e)
