@@ -4,6 +4,7 @@ pub mod TurnLaws
 pub mod Steps
 pub mod Windows
 pub mod Loads
+pub mod Runs
 pub mod StepLaws
 pub mod Moves
 pub mod MoveLaws

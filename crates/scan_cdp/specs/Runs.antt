@@ -1,0 +1,38 @@
+-- A run of examinations over a last window: "A run over a last window ends within length / 64 + 1 examinations, since all but the end (1
+-- or 6) move on by 64 or more" (document 01).
+use Prim.Native.Nat.{ℕ, zero, suc}
+use mathlib.Core.Bool.{Bool, true, false, _||_}
+use mathlib.Core.List.{List}
+use lib.Dec.{eqb}
+use Rattle.basis.specs.Pick.{pick}
+use Rattle.basis.specs.Refusals.{Answer, gives, refuses}
+use Rattle.scan_cdp.specs.Answers.{Found, handed, passed, wants}
+use Rattle.scan_cdp.specs.Steps.{Entry, unchanged}
+use Rattle.scan_cdp.specs.Windows.{examined}
+use Rattle.scan_cdp.specs.declared.Part.{Part}
+use Rattle.scan_cdp.specs.declared.Settings.{Settings}
+use Rattle.scan_cdp.specs.declared.State.{State}
+
+-- Whether an answer is the refusal of that number.
+abbrev pub isRefusal : {P : Type 0} → ℕ → Answer (Found P) → Bool
+isRefusal n (gives found) = false
+isRefusal n (refuses number values) = eqb number n
+
+-- Whether an answer ends a run: "the end (1 or 6)".
+abbrev pub closes : {P : Type 0} → Answer (Found P) → Bool
+closes answer = isRefusal 1 answer || isRefusal 6 answer
+
+-- Whether an answer is a want.
+abbrev pub isWant : {P : Type 0} → Answer (Found P) → Bool
+isWant (gives passed) = false
+isWant (gives (handed h payload position)) = false
+isWant (gives (wants place size)) = true
+isWant (refuses number values) = false
+
+-- The last entry of a run of so many examinations, each on the state and the list that the one before left, up to the first that ends it.
+-- Where no examination is left, the run stands where it is.
+unfoldable pub runEnd : ℕ → Settings → State → List ℕ → (w : List ℕ) → (first : ℕ) → Entry Part
+runEnd zero set s feeIds w first = unchanged s feeIds (gives passed)
+runEnd (suc n) set s feeIds w first =
+    let e = examined set s feeIds w first true in
+    pick (closes (e .answer)) e (runEnd n set (e .state) (e .feeIds) w first)
