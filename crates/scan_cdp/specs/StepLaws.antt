@@ -1,6 +1,6 @@
 -- Laws of one examination: what holds of the outcome, of a state that refusal 6 lets through, and of what an examination leaves.
 use Prim.Native.Nat.{ℕ, _+_, _-_, _<_, _≤_}
-use mathlib.Core.Bool.{Bool, true, false, not, _||_, _&&_, false≢true}
+use mathlib.Core.Bool.{Bool, true, false, not, _||_, _&&_, false≢true, true≢false}
 use mathlib.Core.List.{List, []}
 use mathlib.Core.Path.{_≡_, refl, ap, subst, subst₂, sym, _∙_}
 use native.Mathlib.Omega.{arith}
@@ -8,16 +8,18 @@ use borrow.Author.Tests.{eqb-false, ltb-false, ltb-true}
 use lib.Dec.{ltb}
 use lib.ListN.{length, take, length-drop}
 use Rattle.basis.specs.Pick.{by-test, neither, off, on, pick}
-use Rattle.basis.specs.Refusals.{gives, refuses}
+use Rattle.basis.specs.Refusals.{Answer, gives, refuses}
 use Rattle.filter.specs.Filter.{matches, targetOf}
 use Rattle.rdh.specs.declared.rdh_cru.RdhCru.{RdhCru}
 use Rattle.serde_rdh.specs.Layout.{decoded}
 use Rattle.stats.specs.Counts.{fullCount}
 use Rattle.stats.specs.Listed.{twice}
 use Rattle.stats.specs.ListedLaws.{length-places, once-kept, used-kept}
-use Rattle.scan_cdp.specs.Answers.{wants}
+use Rattle.scan_cdp.specs.Answers.{Found, wants}
 use Rattle.scan_cdp.specs.Loads.{isPassed}
-use Rattle.scan_cdp.specs.Steps.{Entry, answerIn, ended, entryOf, limit, placeAfter, placesListed, progressAfter, step, turn, unchanged, unusable, usedListed}
+use Rattle.scan_cdp.specs.Runs.{closes, isRefusal, isWant}
+use Rattle.scan_cdp.specs.Steps.{Entry, answerIn, cut, ended, entryOf, limit, noMarks, placeAfter, placesListed, progressAfter}
+use Rattle.scan_cdp.specs.Steps.{step, turn, unchanged, unusable, usedListed}
 use Rattle.scan_cdp.specs.Turns.{badOffset, feeId, filtered, memorySize, offset, payloadSize, skipped, turnOf}
 use Rattle.scan_cdp.specs.Windows.{examined, located, outside, placed, shown}
 use Rattle.scan_cdp.specs.declared.Part.{Part}
@@ -63,24 +65,24 @@ filtered-known set h good =
     by-test (Known h) (set .«skip_payload») _ _ (λ skip. skipped-known h HandedOut good both) (λ read. both)))
     (λ other. skipped-known h Passed good good)
 
-pub known : (set : Settings) (first full : Bool) (h : RdhCru) → Known h (turnOf set first full h)
+pub outcome-known : (set : Settings) (first full : Bool) (h : RdhCru) → Known h (turnOf set first full h)
 unfolding turnOf
-known set first full h =
+outcome-known set first full h =
     let good : badOffset (offset h) ≡ false → Known h (filtered set h) = λ e. filtered-known set h (good-offset h e) in
     by-test (Known h) first _ _
     (λ one. by-test (Known h) full _ _ (λ e. tt) (λ e. by-test (Known h) (badOffset (offset h)) _ _ (λ bad. tt) good))
     (λ later. by-test (Known h) (badOffset (offset h)) _ _ (λ bad. tt) (λ fine. by-test (Known h) full _ _ (λ e. tt) (λ e. good fine)))
 
--- Refusal 5 is never met: what is skipped has an offset that refusal 2 let through.
+-- Refusal 5 is never due: what is skipped has an offset that refusal 2 let through.
 pub never-negative : (set : Settings) (first full : Bool) (h : RdhCru) → turnOf set first full h ≡ NegativeSkip → ⊥
-never-negative set first full h e = subst (Known h) e (known set first full h)
+never-negative set first full h e = subst (Known h) e (outcome-known set first full h)
 
 pub passed-offset : (set : Settings) (first full : Bool) (h : RdhCru) → turnOf set first full h ≡ Passed → GoodOffset h
-passed-offset set first full h e = subst (Known h) e (known set first full h)
+passed-offset set first full h e = subst (Known h) e (outcome-known set first full h)
 
 pub handed-out-sizes : (set : Settings) (first full : Bool) (h : RdhCru) → turnOf set first full h ≡ HandedOut
     → GoodOffset h × 64 ≤ memorySize h
-handed-out-sizes set first full h e = subst (Known h) e (known set first full h)
+handed-out-sizes set first full h e = subst (Known h) e (outcome-known set first full h)
 
 -- ---- a state and a list that refusal 6 lets through
 
@@ -241,22 +243,40 @@ pub record InOrder (e : Entry Part) : Type 0 where
   pub fee-ids-used : e .state .progress .«fee_ids_used» ≤ length (e .feeIds)
   pub once : twice (take (e .state .progress .«links_used») (e .state .links)) ≡ false
 
-entry-in-order : (set : Settings) (t : Turn) (s : State) (feeIds : List ℕ) (h : RdhCru) (rest : List ℕ) (end start : ℕ) → Usable s feeIds
-    → InOrder (located start (entryOf set t s feeIds h rest end))
+unchanged-in-order : (s : State) (feeIds : List ℕ) (answer : Answer (Found Part)) → Usable s feeIds → InOrder (unchanged s feeIds answer)
+unchanged-in-order s feeIds answer u = record { links-used = u .links-used; fee-ids-used = u .fee-ids-used; once = u .once }
+
+ended-in-order : (s : State) (feeIds : List ℕ) (end start : ℕ) → Usable s feeIds → InOrder (located start (ended s feeIds end))
+unfolding ended
+ended-in-order s feeIds end start u = record { links-used = u .links-used; fee-ids-used = u .fee-ids-used; once = u .once }
+
+entry-in-order : (set : Settings) (s : State) (feeIds rest : List ℕ) (end start : ℕ) → Usable s feeIds
+    → InOrder (located start (entryAt set s feeIds rest end))
 unfolding entryOf progressAfter
-entry-in-order set t s feeIds h rest end start u =
+entry-in-order set s feeIds rest end start u =
+    let h = decoded rest in
     record {
       links-used = used-listed _ (h .«link_id») (s .progress .«links_used») (s .links) (u .links-used);
       fee-ids-used = used-listed _ (feeId h) (s .progress .«fee_ids_used») feeIds (u .fee-ids-used);
       once = once-listed _ (h .«link_id») (s .progress .«links_used») (s .links) (u .once);
     }
 
+pub examined-in-order : (set : Settings) (s : State) (feeIds w : List ℕ) (first : ℕ) (last : Bool) → Usable s feeIds
+    → InOrder (examined set s feeIds w first last)
+examined-in-order set s feeIds w first last u =
+    examined-cases set s feeIds w first last InOrder
+    (λ six. unchanged-in-order s feeIds _ u)
+    (λ a short more. unchanged-in-order s feeIds _ u)
+    (λ a short all. ended-in-order s feeIds (first + length w) _ u)
+    (λ a long more cuts. unchanged-in-order s feeIds _ u)
+    (λ a long whole. entry-in-order set s feeIds (shownTo s w first) (first + length w) _ u)
+
 -- ---- how far an examination moves the byte place
 
 -- A header that a window shows.
-pub record Shown (place first size : ℕ) : Type 0 where
-  pub starts : first ≤ place
-  pub ends : place + 64 ≤ first + size
+record Shown (place first size : ℕ) : Type 0 where
+  starts : first ≤ place
+  ends : place + 64 ≤ first + size
 
 is-shown : (s : State) (feeIds w : List ℕ) (first : ℕ) → Admitted s feeIds w first → 64 ≤ length (shownTo s w first)
     → Shown (s .progress .place .0) first (length w)
@@ -269,7 +289,7 @@ is-shown s feeIds w first a h =
 
 turn-known : (set : Settings) (s : State) (feeIds : List ℕ) (h : RdhCru) → Known h (turn set (s .progress) feeIds h)
 unfolding turn
-turn-known set s feeIds h = known set _ _ h
+turn-known set s feeIds h = outcome-known set _ _ h
 
 -- an answer that a header was passed has that outcome
 only-passed : (t : Turn) (h : RdhCru) (payload : List ℕ) (from position : Position) (start : ℕ)
@@ -281,7 +301,8 @@ only-passed NegativeSkip h payload from position start e = absurd (false≢true 
 only-passed Passed h payload from position start e = refl
 only-passed HandedOut h payload from position start e = absurd (false≢true e)
 
-place-passed : (skip : Bool) (t : Turn) (h : RdhCru) (place left end : ℕ) → t ≡ Passed → placeAfter skip t h place left end ≡ place + offset h
+place-passed : (skip : Bool) (t : Turn) (h : RdhCru) (place left end : ℕ) → t ≡ Passed
+    → placeAfter skip t h place left end ≡ place + offset h
 unfolding placeAfter
 place-passed skip t h place left end e = ap (λ (u : Turn). placeAfter skip u h place left end) e
 
@@ -312,7 +333,7 @@ entry-passed set s feeIds w first start a long e =
     let good : GoodOffset h = subst (Known h) is (turn-known set s feeIds h) in
     let place = place-passed (set .«skip_payload») t h (p .place .0) (length rest) (first + length w) is in
     let shows = is-shown s feeIds w first a long in
-    let order = entry-in-order set t s feeIds h rest (first + length w) start (usable s feeIds (a .state)) in
+    let order = entry-in-order set s feeIds rest (first + length w) start (usable s feeIds (a .state)) in
     record {
       state = a .state;
       starts = shows .starts;
@@ -336,3 +357,132 @@ examined-passed set s feeIds w first last =
     (λ a short all e. absurd (false≢true e))
     (λ a long more cuts e. absurd (false≢true e))
     (λ a long whole e. entry-passed set s feeIds w first (s .progress .place .0 + 64 - first) a long e)
+
+place-moves : (skip : Bool) (t : Turn) (h : RdhCru) (place left end : ℕ) → Known h t → place + 64 ≤ end
+    → place + 64 ≤ placeAfter skip t h place left end
+unfolding placeAfter
+place-moves skip FeeIdsFull h place left end k ends = omega arith
+place-moves skip BadOffset h place left end k ends = omega arith
+place-moves skip MemorySize h place left end k ends = omega arith
+place-moves skip NegativeSkip h place left end k ends = omega arith
+place-moves skip Passed h place left end k ends = omega (arith, k .least)
+place-moves skip HandedOut h place left end k ends =
+    by-test (λ (n : ℕ). place + 64 ≤ n) skip _ _
+    (λ e. omega (arith, k .0 .least))
+    (λ e. by-test (λ (n : ℕ). place + 64 ≤ n) (cut skip HandedOut h left) _ _ (λ c. ends) (λ c. omega (arith, k .1)))
+
+-- What an examination that moved the byte place found, and how far it moved it. No bound above is stated: an offset or a memory size may
+-- lead past the window's end.
+pub record MovedOn (s : State) (w : List ℕ) (first : ℕ) (e : Entry Part) : Type 0 where
+  pub starts : first ≤ s .progress .place .0
+  pub ends : s .progress .place .0 + 64 ≤ first + length w
+  pub least : s .progress .place .0 + 64 ≤ e .state .progress .place .0
+
+entry-moves : (set : Settings) (s : State) (feeIds w : List ℕ) (first : ℕ) (start : ℕ) → Admitted s feeIds w first
+    → 64 ≤ length (shownTo s w first)
+    → MovedOn s w first (located start (entryAt set s feeIds (shownTo s w first) (first + length w)))
+unfolding entryOf progressAfter
+entry-moves set s feeIds w first start a long =
+    let place = s .progress .place .0 in
+    let rest = shownTo s w first in
+    let h = decoded rest in
+    let shows = is-shown s feeIds w first a long in
+    let moved = place-moves (set .«skip_payload») _ h place (length rest) (first + length w) (turn-known set s feeIds h) (shows .ends) in
+    record { starts = shows .starts; ends = shows .ends; least = moved }
+
+-- All but a want and the end (1 or 6) move on.
+pub moves-on : (set : Settings) (s : State) (feeIds w : List ℕ) (first : ℕ) (last : Bool)
+    → closes (examined set s feeIds w first last .answer) ≡ false → isWant (examined set s feeIds w first last .answer) ≡ false
+    → MovedOn s w first (examined set s feeIds w first last)
+unfolding ended
+moves-on set s feeIds w first last =
+    examined-cases set s feeIds w first last
+    (λ e. closes (e .answer) ≡ false → isWant (e .answer) ≡ false → MovedOn s w first e)
+    (λ six e f. absurd (true≢false e))
+    (λ a short more e f. absurd (true≢false f))
+    (λ a short all e f. absurd (true≢false e))
+    (λ a long more cuts e f. absurd (true≢false f))
+    (λ a long whole e f. entry-moves set s feeIds w first (s .progress .place .0 + 64 - first) a long)
+
+-- ---- wants and the end
+
+-- A want is answered on a window that is not the last, and changes nothing.
+pub record Wanted (s : State) (feeIds : List ℕ) (last : Bool) (e : Entry Part) : Type 0 where
+  pub more : last ≡ false
+  pub same-state : e .state ≡ s
+  pub same-fee-ids : e .feeIds ≡ feeIds
+  pub no-marks : e .marks ≡ noMarks
+
+-- What no header is answered with: a want, refusal 1 and refusal 5.
+record OfHeader (answer : Answer (Found Part)) : Type 0 where
+  no-want : isWant answer ≡ false
+  no-end : isRefusal 1 answer ≡ false
+  no-skip : isRefusal 5 answer ≡ false
+
+of-header : (t : Turn) (h : RdhCru) (payload : List ℕ) (from position : Position) (start : ℕ) → Known h t
+    → OfHeader (placed start (answerIn t h payload from position))
+of-header FeeIdsFull h payload from position start k = record { no-want = refl; no-end = refl; no-skip = refl }
+of-header BadOffset h payload from position start k = record { no-want = refl; no-end = refl; no-skip = refl }
+of-header MemorySize h payload from position start k = record { no-want = refl; no-end = refl; no-skip = refl }
+of-header NegativeSkip h payload from position start k = absurd k
+of-header Passed h payload from position start k = record { no-want = refl; no-end = refl; no-skip = refl }
+of-header HandedOut h payload from position start k = record { no-want = refl; no-end = refl; no-skip = refl }
+
+entry-answers : (set : Settings) (s : State) (feeIds rest : List ℕ) (end start : ℕ)
+    → OfHeader (located start (entryAt set s feeIds rest end) .answer)
+unfolding entryOf
+entry-answers set s feeIds rest end start =
+    let h = decoded rest in
+    of-header (turn set (s .progress) feeIds h) h _ _ _ start (turn-known set s feeIds h)
+
+pub examined-wants : (set : Settings) (s : State) (feeIds w : List ℕ) (first : ℕ) (last : Bool)
+    → isWant (examined set s feeIds w first last .answer) ≡ true → Wanted s feeIds last (examined set s feeIds w first last)
+unfolding ended
+examined-wants set s feeIds w first last =
+    examined-cases set s feeIds w first last (λ e. isWant (e .answer) ≡ true → Wanted s feeIds last e)
+    (λ six e. absurd (false≢true e))
+    (λ a short more e. record { more = more; same-state = refl; same-fee-ids = refl; no-marks = refl })
+    (λ a short all e. absurd (false≢true e))
+    (λ a long more cuts e. record { more = more; same-state = refl; same-fee-ids = refl; no-marks = refl })
+    (λ a long whole e. absurd (false≢true (sym (entry-answers set s feeIds (shownTo s w first) (first + length w) _ .no-want) ∙ e)))
+
+-- Refusal 1 is answered on a last window: so never where a want can be.
+pub examined-ends : (set : Settings) (s : State) (feeIds w : List ℕ) (first : ℕ) (last : Bool)
+    → isRefusal 1 (examined set s feeIds w first last .answer) ≡ true → last ≡ true
+unfolding ended
+examined-ends set s feeIds w first last =
+    examined-cases set s feeIds w first last (λ e. isRefusal 1 (e .answer) ≡ true → last ≡ true)
+    (λ six e. absurd (false≢true e))
+    (λ a short more e. absurd (false≢true e))
+    (λ a short all e. all)
+    (λ a long more cuts e. absurd (false≢true e))
+    (λ a long whole e. absurd (false≢true (sym (entry-answers set s feeIds (shownTo s w first) (first + length w) _ .no-end) ∙ e)))
+
+-- On a last window nothing is wanted.
+pub no-want-at-last : (set : Settings) (s : State) (feeIds w : List ℕ) (first : ℕ)
+    → isWant (examined set s feeIds w first true .answer) ≡ false
+unfolding ended
+no-want-at-last set s feeIds w first =
+    examined-cases set s feeIds w first true (λ e. isWant (e .answer) ≡ false)
+    (λ six. refl)
+    (λ a short more. absurd (true≢false more))
+    (λ a short all. refl)
+    (λ a long more cuts. absurd (true≢false more))
+    (λ a long whole. entry-answers set s feeIds (shownTo s w first) (first + length w) _ .no-want)
+
+-- Refusal 5 is never answered.
+pub no-negative-skip : (set : Settings) (s : State) (feeIds w : List ℕ) (first : ℕ) (last : Bool)
+    → isRefusal 5 (examined set s feeIds w first last .answer) ≡ false
+unfolding ended
+no-negative-skip set s feeIds w first last =
+    examined-cases set s feeIds w first last (λ e. isRefusal 5 (e .answer) ≡ false)
+    (λ six. refl)
+    (λ a short more. refl)
+    (λ a short all. refl)
+    (λ a long more cuts. refl)
+    (λ a long whole. entry-answers set s feeIds (shownTo s w first) (first + length w) _ .no-skip)
+
+-- Over a last window, all but the end (1 or 6) move on by 64 or more.
+pub examined-moves : (set : Settings) (s : State) (feeIds w : List ℕ) (first : ℕ)
+    → closes (examined set s feeIds w first true .answer) ≡ false → MovedOn s w first (examined set s feeIds w first true)
+examined-moves set s feeIds w first e = moves-on set s feeIds w first true e (no-want-at-last set s feeIds w first)
