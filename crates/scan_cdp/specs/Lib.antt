@@ -6,6 +6,7 @@ pub mod Windows
 pub mod Loads
 pub mod Runs
 pub mod StepLaws
+pub mod RunLaws
 pub mod Moves
 pub mod MoveLaws
 pub mod WindowLaws
