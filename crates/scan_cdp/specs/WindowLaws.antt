@@ -4,9 +4,10 @@ use mathlib.Core.Bool.{Bool, true, false, not, _||_, _&&_}
 use mathlib.Core.Path.{_≡_, refl, ap, sym, _∙_}
 use mathlib.Core.List.{List, []}
 use native.Mathlib.Omega.{arith}
-use borrow.Author.Tests.{lt-ltb, le-ltb, ltb-true, ltb-false}
-use lib.Dec.{eqb, ltb}
-use lib.ListN.{length, take, drop, length-take, length-drop}
+use borrow.Author.Tests.{lt-ltb, le-ltb, ltb-false, leb-true, leb-false}
+use lib.Dec.{leb, ltb}
+use lib.ListN.{length, take, drop, length-take, length-drop, drop-of-length-le}
+use lib.Seq.{take-all}
 use Rattle.basis.specs.Pick.{on, off, pick}
 use Rattle.basis.specs.Refusals.{gives, refuses}
 use Rattle.rdh.specs.declared.rdh_cru.RdhCru.{RdhCru}
@@ -15,7 +16,7 @@ use Rattle.scan_cdp.specs.Answers.{wants}
 use Rattle.scan_cdp.specs.Moves.{readSize}
 use Rattle.scan_cdp.specs.Steps.{Entry, answerIn, cut, ended, entryOf, marksOf, payloadOf, step, turn, unchanged, unusable}
 use Rattle.scan_cdp.specs.Turns.{payloadSize}
-use Rattle.scan_cdp.specs.Windows.{examined, located, outside, partAt, placed, shown}
+use Rattle.scan_cdp.specs.Windows.{bytesAt, examined, located, outside, partAt, placed, shown}
 use Rattle.scan_cdp.specs.declared.Part.{Part}
 use Rattle.scan_cdp.specs.declared.Position.{Position}
 use Rattle.scan_cdp.specs.declared.Settings.{Settings}
@@ -112,3 +113,41 @@ module _ (set : Settings) (s : State) (feeIds w : List ℕ) (first : ℕ) (last 
         neither : (b : Bool) → (not b && ltb (length rest) 64) ≡ false
         neither true = refl
         neither false = le-ltb (length rest) 64 whole
+
+-- ---- the bytes of a part
+
+fitting : (n : ℕ) (l : List ℕ) → take (min n (length l)) l ≡ take n l
+fitting n l = by-length (leb n (length l)) refl
+  where
+    by-length : (b : Bool) → leb n (length l) ≡ b → take (min n (length l)) l ≡ take n l
+    by-length true e =
+        let least : min n (length l) ≡ n = omega (arith, leb-true n (length l) e) in
+        ap (λ (k : ℕ). take k l) least
+    by-length false e =
+        let h = leb-false n (length l) e in
+        take-all (min n (length l)) l (omega (arith, h)) ∙ sym (take-all n l (omega (arith, h)))
+
+dropping : (n : ℕ) (l : List ℕ) → drop (min n (length l)) l ≡ drop n l
+dropping n l = by-length (leb n (length l)) refl
+  where
+    by-length : (b : Bool) → leb n (length l) ≡ b → drop (min n (length l)) l ≡ drop n l
+    by-length true e =
+        let least : min n (length l) ≡ n = omega (arith, leb-true n (length l) e) in
+        ap (λ (k : ℕ). drop k l) least
+    by-length false e =
+        let h = leb-false n (length l) e in
+        drop-of-length-le l {i = min n (length l)} (omega (arith, h)) ∙ sym (drop-of-length-le l {i = n} (omega (arith, h)))
+
+-- A part that reaches beyond the window has the bytes that the window has of it.
+pub bytes-within : (w : List ℕ) (part : Part) (start n : ℕ) → start ≡ min (part .start) (length w)
+    → n ≡ min (part .length) (length w - start) → take (start + n - start) (drop start w) ≡ bytesAt w part
+unfolding bytesAt
+bytes-within w part start n begins size =
+    let k = part .length in
+    let bytes : drop start w ≡ drop (part .start) w = ap (λ (i : ℕ). drop i w) begins ∙ dropping (part .start) w in
+    let taken : start + n - start ≡ min k (length (drop start w)) = omega (arith, size, length-drop start w) in
+    ap (λ (i : ℕ). take i (drop start w)) taken ∙ fitting k (drop start w) ∙ ap (λ (l : List ℕ). take k l) bytes
+
+-- What a window shows of the recording from a place on that is so far behind its first one.
+pub shown-within : (place first : ℕ) (w : List ℕ) (start : ℕ) → start ≡ min (place - first) (length w) → drop start w ≡ shown place first w
+shown-within place first w start e = ap (λ (i : ℕ). drop i w) e ∙ dropping (place - first) w
