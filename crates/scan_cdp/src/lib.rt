@@ -1,8 +1,8 @@
 // What a scan is asked for, keeps and answers, and what becomes of one header: the layer below the reading of a window.
 pub mod turn;
+
 ghost use mathlib.Core.Path.{_≡_};
 ghost use Rattle.scan_cdp.specs.Steps.{newState};
-
 use filter::FilterOpt;
 use rdh::rdh_cru::RdhCru;
 

@@ -1,19 +1,22 @@
 -- Laws of the table: its fields fill the 64 bytes, decoding and encoding undo each other, and headers are the same exactly when their
 -- bytes are. What holds of every field is proved over a list of fields that stand side by side.
 use mathlib.Core.Path.{_≡_, refl, sym, ap, subst, _∙_}
-use mathlib.Core.Bool.{Bool, true, false}
+use mathlib.Core.Bool.{Bool, true, false, true≢false}
 use mathlib.Core.Logic.{_↔_}
 use mathlib.Core.List.{List, [], _∷_, _++_, append-assoc, append-nil}
-use Prim.Native.Nat.{ℕ, _+_, _≤_}
+use Prim.Native.Nat.{ℕ, _+_, _≤_, _<_}
 use native.Mathlib.Omega.{arith}
-use lib.Dec.{eqb}
+use borrow.Author.Tests.{ltb-true, ltb-false}
+use lib.Dec.{eqb, ltb}
+use lib.IntN.{ℤ}
 use lib.ListN.{length, take, drop, length-append}
 use lib.Seq.{take-add}
 use Rattle.basis.specs.Bytes.{Bytes, bytesOf, numberAt}
 use Rattle.basis.specs.BytesLaws.{length-bytesOf, bytesOf-numberAt, numberAt-bytesOf, numberAt-take}
-use Rattle.basis.specs.Pick.{pick}
+use Rattle.basis.specs.Pick.{on, off, pick}
+use Rattle.basis.specs.Refusals.{Answer, gives, refuses}
 use Rattle.rdh.specs.declared.rdh_cru.RdhCru.{RdhCru}
-use Rattle.serde_rdh.specs.Layout.{Field, fields, span, value, Tiles, header, number, decoded, bytesIn, encoded, InRange}
+use Rattle.serde_rdh.specs.Layout.{Field, fields, span, value, Tiles, header, number, decode, decoded, bytesIn, encoded, InRange}
 use Rattle.serde_rdh.specs.Layout.{header-id, header-size, fee-id, priority-bit, system-id, rdh0-reserved0, offset-new-packet}
 use Rattle.serde_rdh.specs.Layout.{memory-size, link-id, packet-counter, cruid-dw, bc-reserved0, orbit, dataformat-reserved0}
 use Rattle.serde_rdh.specs.Layout.{trigger-type, pages-counter, stop-bit, rdh2-reserved0, reserved1, detector-field, par-bit}
@@ -176,3 +179,31 @@ module _ (s : List ℕ) (bytes : Bytes s) where
 pub same-bytes : (a b : RdhCru) → InRange a → InRange b → (encoded a ≡ encoded b) ↔ (a ≡ b)
 same-bytes a b fits-a fits-b =
     (λ e. sym (decoded-encoded a fits-a []) ∙ ap (λ (s : List ℕ). decoded (s ++ [])) e ∙ decoded-encoded b fits-b [], ap encoded)
+
+-- ---- what an answer tells of the bytes
+
+abbrev isGiven : Answer RdhCru → Bool
+isGiven (gives h) = true
+isGiven (refuses number values) = false
+
+abbrev givenOr : RdhCru → Answer RdhCru → RdhCru
+givenOr other (gives h) = h
+givenOr other (refuses number values) = other
+
+-- Bytes that decoding refuses are too few.
+pub decode-refused : (s : List ℕ) (number : ℕ) (values : List ℤ) → refuses number values ≡ decode s → length s < 64
+unfolding decode
+decode-refused s number values e = by-length (ltb (length s) 64) refl
+  where
+    by-length : (b : Bool) → ltb (length s) 64 ≡ b → length s < 64
+    by-length true few = ltb-true (length s) 64 few
+    by-length false enough = absurd (true≢false (sym (ap isGiven (e ∙ off _ _ enough))))
+
+-- Bytes that decoding takes are enough, and the header is what they hold.
+pub decode-given : (s : List ℕ) (h : RdhCru) → gives h ≡ decode s → (64 ≤ length s) × (h ≡ decoded s)
+unfolding decode
+decode-given s h e = by-length (ltb (length s) 64) refl
+  where
+    by-length : (b : Bool) → ltb (length s) 64 ≡ b → (64 ≤ length s) × (h ≡ decoded s)
+    by-length true few = absurd (true≢false (ap isGiven (e ∙ on _ _ few)))
+    by-length false enough = (ltb-false (length s) 64 enough, ap (givenOr h) (e ∙ off _ _ enough))

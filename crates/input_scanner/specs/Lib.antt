@@ -1,0 +1,4 @@
+pub mod Replies
+pub mod Stepping
+pub mod SteppingLaws
+pub mod LoadLaws

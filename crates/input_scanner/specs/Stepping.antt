@@ -1,0 +1,77 @@
+-- What the parts of an examination reply, said by the definitions of the step.
+use Prim.Native.Nat.{ℕ, _+_, _≤_, _<_, _^_}
+use mathlib.Core.Bool.{Bool, not, _||_, _&&_}
+use mathlib.Core.Path.{_≡_}
+use mathlib.Core.List.{List, []}
+use lib.Dec.{eqb, ltb}
+use lib.ListN.{length}
+use Rattle.basis.specs.Pick.{pick}
+use Rattle.basis.specs.Refusals.{Answer, gives, refuses}
+use Rattle.rdh.specs.declared.rdh_cru.RdhCru.{RdhCru}
+use Rattle.stats.specs.Counts.{fullCount}
+use Rattle.scan_cdp.specs.Answers.{Found, answerOf, wants}
+use Rattle.scan_cdp.specs.Moves.{readSize}
+use Rattle.scan_cdp.specs.Steps.{Entry, answerIn, cut, ended, limit, lists, marksOf, noMarks, placesListed, progressAfter, startOf, turn, unchanged, usedListed}
+use Rattle.scan_cdp.specs.Turns.{feeId, payloadSize}
+use Rattle.scan_cdp.specs.Windows.{partAt}
+use Rattle.scan_cdp.specs.declared.Part.{Part}
+use Rattle.scan_cdp.specs.declared.Progress.{Progress}
+use Rattle.scan_cdp.specs.declared.Settings.{Settings}
+use Rattle.scan_cdp.specs.declared.State.{State}
+use Rattle.scan_cdp.specs.declared.turn.Turn.{Turn}
+use Rattle.input_scanner.specs.Replies.{stepOf, withLinks}
+use Rattle.input_scanner.specs.declared.step.Step.{Step}
+
+-- Refusal 6 by state and list, but for a link that is listed twice.
+unfoldable pub numbersUnusable : Progress → ℕ → ℕ → Bool
+numbersUnusable p links feeIds =
+    ltb limit (p .place .0) || ltb limit (p .position .0)
+    || ltb links (p .«links_used») || ltb feeIds (p .«fee_ids_used»)
+    || eqb (p .counts .seen) fullCount || eqb (p .counts .filtered) fullCount || eqb (p .counts .payload) fullCount
+
+-- A reply that changes nothing.
+pub record Unchanged (p : Progress) (a : Answer (Found Part)) (r : Step) : Type 0 where
+  pub answer : answerOf (r .answer) ≡ a
+  pub marks : r .marks ≡ noMarks
+  pub progress : r .progress ≡ p
+
+-- A reply where there are fewer than 64 bytes at the byte place, whatever links and FEE ids are listed.
+abbrev pub Lacking : Progress → ℕ → Bool → Step → Type 0
+Lacking p end last r =
+    (links feeIds : List ℕ) → stepOf r links feeIds
+    ≡ pick last (ended (withLinks p links) feeIds end) (unchanged (withLinks p links) feeIds (gives (wants (p .place) 64)))
+
+-- A header's bytes start at `start` in a window, with so many bytes from there on.
+pub record HeaderHere (p : Progress) (start left : ℕ) : Type 0 where
+  pub place : p .place .0 ≤ limit
+  pub position : p .position .0 ≤ limit
+  pub inside : start + left < 2 ^ 63
+  pub whole : 64 ≤ left
+
+-- The reply for a header that has an outcome.
+pub record Stepped (set : Settings) (p : Progress) (t : Turn) (h : RdhCru) (start left linksUsed feeIdsUsed : ℕ) (r : Step) : Type 0 where
+  pub answer : answerOf (r .answer)
+      ≡ answerIn t h (partAt (start + 64) (readSize (set .«skip_payload») (cut (set .«skip_payload») t h left) h))
+      (startOf (p .load) (p .position)) (p .position)
+  pub marks : r .marks ≡ marksOf set t p h left
+  pub progress : r .progress ≡ progressAfter set t p h left (p .place .0 + left) linksUsed feeIdsUsed
+
+-- The reply for a header whose outcome is not known yet: a want for its payload, or what its outcome makes of it.
+unfoldable pub headerStepped : Settings → State → List ℕ → RdhCru → (start left : ℕ) → (last : Bool) → Entry Part
+headerStepped set s feeIds h start left last =
+    let p = s .progress in
+    let t = turn set p feeIds h in
+    let skip = set .«skip_payload» in
+    pick (not last && cut skip t h left) (unchanged s feeIds (gives (wants (p .place) (64 + payloadSize h))))
+    (record {
+      answer = answerIn t h (partAt (start + 64) (readSize skip (cut skip t h left) h)) (startOf (p .load) (p .position)) (p .position);
+      marks = marksOf set t p h left;
+      state = record {
+        progress =
+            progressAfter set t p h left (p .place .0 + left)
+            (usedListed (lists set t p) (h .«link_id») (p .«links_used») (s .links))
+            (usedListed (lists set t p) (feeId h) (p .«fee_ids_used») feeIds);
+        links = placesListed (lists set t p) (h .«link_id») (p .«links_used») (s .links);
+      };
+      feeIds = placesListed (lists set t p) (feeId h) (p .«fee_ids_used») feeIds;
+    })

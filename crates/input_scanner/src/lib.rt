@@ -1,0 +1,174 @@
+// The scan of a recording through a window: one examination, the load above it, and the payload as a part of the window.
+ghost use mathlib.Core.Path.{_≡_};
+ghost use Prim.Native.Nat.{_+_, _≤_, min};
+ghost use Rattle.basis.specs.Pick.{pick};
+ghost use Rattle.scan_cdp.specs.Steps.{limit};
+ghost use Rattle.scan_cdp.specs.Windows.{bytesAt, examined};
+ghost use Rattle.scan_cdp.specs.Loads.{eitherInitial, loaded, noLoadMarks, together};
+ghost use Rattle.input_scanner.specs.Replies.{examinationOf, loadOf};
+use crate::step::no_marks;
+use crate::step::take_step;
+use scan_cdp::BytePlace;
+use scan_cdp::Examined;
+use scan_cdp::Initial;
+use scan_cdp::LoadCdp;
+use scan_cdp::LoadMarks;
+use scan_cdp::Marks;
+use scan_cdp::Part;
+use scan_cdp::Refusal;
+use scan_cdp::Settings;
+use scan_cdp::State;
+
+mod step;
+
+// What the examination of one header replies.
+pub struct Examination {
+    pub answer: Examined,
+    pub marks: Marks,
+    pub state: State,
+}
+
+// What a load replies.
+pub struct Load {
+    pub answer: LoadCdp,
+    pub marks: LoadMarks,
+    pub state: State,
+}
+
+// Examines the header at the state's byte place. `window` holds the recording's bytes from `first` on, and the recording ends with it if it
+// is the `last`.
+pub fn examine(
+    set: Settings,
+    state: State,
+    fee_ids: &mut [u16],
+    window: &[u8],
+    first: BytePlace,
+    last: bool,
+) -> Examination
+    ensures { λ r. ⌜ examinationOf r (now («fee_ids» .exit)) ≡ examined set state (now («fee_ids» .entry)) (now (window .entry)) (first .0) last ⌝ }
+{
+    let progress = state.progress;
+    let mut links = state.links;
+    if stats::has_link_twice(&links, progress.links_used) {
+        return Examination {
+            answer: Examined::Answered(LoadCdp::Refused(Refusal::Unusable)),
+            marks: no_marks(),
+            state,
+        };
+    }
+    let next = take_step(set, progress, &mut links, fee_ids, window, first, last);
+    let answer = next.answer;
+    let marks = next.marks;
+    let progress = next.progress;
+    Examination {
+        answer,
+        marks,
+        state: State { progress, links },
+    }
+}
+
+// Loads the next packet: examines headers up to the first that is not passed. The links are copied once for the whole load.
+pub fn load_cdp(
+    set: Settings,
+    state: State,
+    fee_ids: &mut [u16],
+    window: &[u8],
+    first: BytePlace,
+    last: bool,
+) -> Load
+    ensures { λ r. ⌜ loadOf r (now («fee_ids» .exit)) ≡ loaded set state (now («fee_ids» .entry)) (now (window .entry)) (first .0) last ⌝ }
+{
+    let mut progress = state.progress;
+    let mut links = state.links;
+    let mut marks = no_load_marks();
+    if stats::has_link_twice(&links, progress.links_used) {
+        return Load {
+            answer: LoadCdp::Refused(Refusal::Unusable),
+            marks,
+            state,
+        };
+    }
+    let answer = loop {
+        let next = take_step(set, progress, &mut links, fee_ids, window, first, last);
+        let next_marks = next.marks;
+        marks = together(marks, next_marks);
+        progress = next.progress;
+        let answer = next.answer;
+        match answer {
+            Examined::Passed => {}
+            Examined::Answered(found) => break found,
+        }
+    };
+    Load {
+        answer,
+        marks,
+        state: State { progress, links },
+    }
+}
+
+fn no_load_marks() -> LoadMarks
+    ensures { λ r. ⌜ r ≡ noLoadMarks ⌝ }
+{
+    LoadMarks {
+        initial: Initial::None,
+        seen_carries: 0,
+        filtered_carry: false,
+        payload_carry: false,
+        payload_cut: false,
+    }
+}
+
+// The marks of the examinations so far with those of the next one.
+fn together(marks: LoadMarks, next: Marks) -> LoadMarks
+    requires { ⌜ marks .«seen_carries» ≤ limit ⌝ }
+    ensures { λ r. ⌜ r ≡ together marks next ⌝ }
+{
+    let initial = marks.initial;
+    let next_initial = next.initial;
+    LoadMarks {
+        initial: either_initial(initial, next_initial),
+        seen_carries: raised(marks.seen_carries, next.seen_carry),
+        filtered_carry: marks.filtered_carry | next.filtered_carry,
+        payload_carry: marks.payload_carry | next.payload_carry,
+        payload_cut: marks.payload_cut | next.payload_cut,
+    }
+}
+
+// The earlier of two initial marks.
+fn either_initial(initial: Initial, next: Initial) -> Initial
+    ensures { λ r. ⌜ r ≡ eitherInitial initial next ⌝ }
+{
+    match initial {
+        Initial::None => next,
+        Initial::Report(trigger_type, data_format, system_id) => Initial::Report(
+            trigger_type,
+            data_format,
+            system_id,
+        ),
+    }
+}
+
+fn raised(count: u64, carry: bool) -> u64
+    requires { ⌜ count ≤ limit ⌝ }
+    ensures { λ r. ⌜ r ≡ pick carry (count + 1) count ⌝ }
+{
+    if carry {
+        return count + 1;
+    }
+    count
+}
+
+// The bytes of a part of the window, as that of a packet's payload; as many as the window has of them.
+pub fn payload(window: &[u8], part: Part) -> &[u8]
+    ensures { λ r. ⌜ now r ≡ bytesAt (now (window .entry)) part ⌝ }
+{
+    let start = least(part.start, window.len());
+    let end = start + least(part.length, window.len() - start);
+    &window[start..end]
+}
+
+fn least(a: usize, b: usize) -> usize
+    ensures { λ r. ⌜ r ≡ min a b ⌝ }
+{
+    if a < b { a } else { b }
+}
