@@ -10,11 +10,11 @@ use Rattle.basis.specs.Pick.{on, off, pick}
 use Rattle.basis.specs.Refusals.{refuses}
 use Rattle.stats.specs.Listed.{twice}
 use Rattle.scan_cdp.specs.Loads.{Loaded, isPassed, loaded, loadedFrom, noLoadMarks, replied, together}
-use Rattle.scan_cdp.specs.RunLaws.{enough, fewer}
-use Rattle.scan_cdp.specs.StepLaws.{PassedOn, examined-lengths, examined-passed, shownTo}
+use Rattle.scan_laws.specs.RunLaws.{enough, fewer}
+use Rattle.scan_laws.specs.StepLaws.{PassedOn, examined-lengths, examined-passed, shownTo}
 use Rattle.scan_cdp.specs.Steps.{Entry, unusable}
 use Rattle.scan_cdp.specs.Windows.{examined, outside}
-use Rattle.scan_cdp.specs.WindowLaws.{refused-6}
+use Rattle.scan_laws.specs.WindowLaws.{refused-6}
 use Rattle.scan_cdp.specs.Answers.{loadAnswer}
 use Rattle.scan_cdp.specs.declared.LoadCdp.{LoadCdp}
 use Rattle.scan_cdp.specs.declared.LoadCdp.the-variants.{Packet, Refused, Want}

@@ -20,7 +20,7 @@ use Rattle.scan_cdp.specs.Steps.{Entry, answerIn, cut, ended, entryOf, limit, l
 use Rattle.scan_cdp.specs.Turns.{feeId, payloadSize}
 use Rattle.scan_cdp.specs.Moves.{readSize}
 use Rattle.scan_cdp.specs.Windows.{examined, located, outside, partAt, shown}
-use Rattle.scan_cdp.specs.WindowLaws.{examined-header, examined-short, placed-answer, shown-within, step-header}
+use Rattle.scan_laws.specs.WindowLaws.{examined-header, examined-short, placed-answer, shown-within, step-header}
 use Rattle.scan_cdp.specs.declared.Part.{Part}
 use Rattle.scan_cdp.specs.declared.Progress.{Progress}
 use Rattle.scan_cdp.specs.declared.Settings.{Settings}

@@ -4,9 +4,4 @@ pub mod TurnLaws
 pub mod Steps
 pub mod Windows
 pub mod Loads
-pub mod Runs
-pub mod StepLaws
-pub mod RunLaws
 pub mod Moves
-pub mod MoveLaws
-pub mod WindowLaws

@@ -5,7 +5,7 @@ use mathlib.Core.List.{[]}
 use lib.ListN.{length}
 use Rattle.basis.specs.Refusals.{refuses}
 use Rattle.scan_cdp.specs.Windows.{outside}
-use Rattle.scan_cdp.specs.WindowLaws.{refused-6}
+use Rattle.scan_laws.specs.WindowLaws.{refused-6}
 use Rattle.input_scanner.specs.SteppingLaws.{twice-unusable}
 use borrow.Author.Needs.{needs}
 use Rattle.input_scanner.proofs.examine.Statement.{statement}

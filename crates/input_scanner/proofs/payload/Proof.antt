@@ -1,5 +1,5 @@
 -- What the window has of the part is taken.
-use Rattle.scan_cdp.specs.WindowLaws.{bytes-within}
+use Rattle.scan_laws.specs.WindowLaws.{bytes-within}
 use borrow.Author.Needs.{needs}
 use Rattle.input_scanner.proofs.payload.Statement.{statement}
 use Rattle.input_scanner.proofs.payload.Tie as tie

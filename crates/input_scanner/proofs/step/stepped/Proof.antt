@@ -4,7 +4,7 @@ use mathlib.Core.Bool.{Bool}
 use mathlib.Core.Path.{_≡_, ap, _∙_}
 use native.Mathlib.Omega.{arith}
 use Rattle.scan_cdp.specs.Moves.{movedBy, readSize}
-use Rattle.scan_cdp.specs.MoveLaws.{place-moved, position-moved}
+use Rattle.scan_laws.specs.MoveLaws.{place-moved, position-moved}
 use Rattle.scan_cdp.specs.Steps.{answerIn, initialOf, marksOf, progressAfter, startOf, tallied}
 use Rattle.scan_cdp.specs.Windows.{partAt}
 use Rattle.scan_cdp.specs.declared.Part.{Part}

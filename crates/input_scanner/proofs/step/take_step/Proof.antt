@@ -7,9 +7,9 @@ use mathlib.Core.List.{List, []}
 use lib.ListN.{length, take, drop, length-drop}
 use lib.Seq.{take-all}
 use Rattle.scan_cdp.specs.Steps.{unusable}
-use Rattle.scan_cdp.specs.StepLaws.{usable}
+use Rattle.scan_laws.specs.StepLaws.{usable}
 use Rattle.scan_cdp.specs.Windows.{outside}
-use Rattle.scan_cdp.specs.WindowLaws.{refused-6}
+use Rattle.scan_laws.specs.WindowLaws.{refused-6}
 use Rattle.serde_rdh.specs.Layout.{decode}
 use Rattle.serde_rdh.specs.LayoutLaws.{decode-given}
 use Rattle.serde_rdh.specs.Refusals.{decodeAnswer}

@@ -6,15 +6,15 @@ use mathlib.Core.Path.{_≡_}
 use native.Mathlib.Omega.{arith}
 use lib.ListN.{length, length-drop}
 use Rattle.basis.specs.Pick.{by-test}
 use Rattle.scan_cdp.specs.Loads.{Loaded, isPassed, loaded, loadedFrom, noLoadMarks}
-use Rattle.scan_cdp.specs.Runs.{closes, isWant, runEnd}
-use Rattle.scan_cdp.specs.StepLaws.{examined-moves, examined-passed, examined-wants, shownTo}
+use Rattle.scan_laws.specs.Runs.{closes, isWant, runEnd}
+use Rattle.scan_laws.specs.StepLaws.{examined-moves, examined-passed, examined-wants, shownTo}
 use Rattle.scan_cdp.specs.Steps.{Entry}
 use Rattle.scan_cdp.specs.Windows.{examined}
 use Rattle.scan_cdp.specs.declared.LoadMarks.{LoadMarks}
 use Rattle.scan_cdp.specs.declared.Part.{Part}
 use Rattle.scan_cdp.specs.declared.Settings.{Settings}
 use Rattle.scan_cdp.specs.declared.State.{State}
 
 -- the bytes that a window shows are fewer by 64 or more after each examination that moves on
 pub fewer : (s s′ : State) (w : List ℕ) (first n : ℕ) → first ≤ s .progress .place .0 → s .progress .place .0 + 64 ≤ first + length w

@@ -15,19 +15,19 @@ use Rattle.serde_rdh.specs.Layout.{decoded}
 use Rattle.stats.specs.Counts.{fullCount}
 use Rattle.stats.specs.Listed.{twice}
 use Rattle.stats.specs.ListedLaws.{length-places, once-kept, used-kept}
 use Rattle.scan_cdp.specs.Answers.{Found, wants}
 use Rattle.scan_cdp.specs.Loads.{isPassed}
-use Rattle.scan_cdp.specs.Runs.{closes, isRefusal, isWant}
+use Rattle.scan_laws.specs.Runs.{closes, isRefusal, isWant}
 use Rattle.scan_cdp.specs.Steps.{Entry, answerIn, cut, ended, entryOf, limit, noMarks, placeAfter, placesListed, progressAfter}
 use Rattle.scan_cdp.specs.Steps.{step, turn, unchanged, unusable, usedListed}
 use Rattle.scan_cdp.specs.Turns.{badOffset, feeId, filtered, memorySize, offset, payloadSize, skipped, turnOf}
 use Rattle.scan_cdp.specs.Windows.{examined, located, outside, placed, shown}
 use Rattle.scan_cdp.specs.declared.Part.{Part}
 use Rattle.scan_cdp.specs.declared.Position.{Position}
 use Rattle.scan_cdp.specs.declared.Settings.{Settings}
 use Rattle.scan_cdp.specs.declared.State.{State}
 use Rattle.scan_cdp.specs.declared.turn.Turn.{Turn}
 use Rattle.scan_cdp.specs.declared.turn.Turn.the-variants.{FeeIdsFull, BadOffset, MemorySize, NegativeSkip, Passed, HandedOut}
 
 -- ---- the outcome
 

@@ -1,0 +1,5 @@
+pub mod MoveLaws
+pub mod Runs
+pub mod StepLaws
+pub mod RunLaws
+pub mod WindowLaws

@@ -1,0 +1,1 @@
+// Laws of the step, of the examination and of the load. There is no code.
