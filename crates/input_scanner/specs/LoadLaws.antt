@@ -9,7 +9,7 @@ use lib.ListN.{length, take}
 use Rattle.basis.specs.Pick.{on, off, pick}
 use Rattle.basis.specs.Refusals.{refuses}
 use Rattle.stats.specs.Listed.{twice}
-use Rattle.scan_cdp.specs.Loads.{Loaded, isPassed, loaded, loadedFrom, noLoadMarks, replied, together}
+use Rattle.scan_cdp.specs.Loads.{isPassed, loaded, loadedFrom, noLoadMarks, replied, together}
 use Rattle.scan_laws.specs.RunLaws.{enough, fewer}
 use Rattle.scan_laws.specs.StepLaws.{PassedOn, examined-lengths, examined-passed, shownTo}
 use Rattle.scan_cdp.specs.Steps.{Entry, unusable}

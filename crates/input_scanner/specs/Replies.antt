@@ -16,7 +16,7 @@ abbrev pub examinationOf : Examination → List ℕ → Entry Part
 examinationOf r feeIds = record { answer = answerOf (r .answer); marks = r .marks; state = r .state; feeIds = feeIds }
 
 -- A load's reply, and the FEE ids that it leaves.
-abbrev pub loadOf : Load → List ℕ → Loaded
+abbrev pub loadOf : Load → List ℕ → Loaded Part
 loadOf r feeIds = record { answer = loadAnswer (r .answer); marks = r .marks; state = r .state; feeIds = feeIds }
 
 -- The state, whose links stand apart while a call goes on.

@@ -18,8 +18,8 @@ use Rattle.scan_cdp.specs.declared.Settings.{Settings}
 use Rattle.scan_cdp.specs.declared.State.{State}
 
 -- What a load replies, and what state and list then hold.
-pub record Loaded : Type 0 where
-  pub answer : Answer (Found Part)
+pub record Loaded (P : Type 0) : Type 0 where
+  pub answer : Answer (Found P)
   pub marks : LoadMarks
   pub state : State
   pub feeIds : List ℕ
@@ -51,11 +51,11 @@ isPassed (gives (handed h payload position)) = false
 isPassed (gives (wants place size)) = false
 isPassed (refuses number values) = false
 
-abbrev pub replied : LoadMarks → Entry Part → Loaded
+abbrev pub replied : {P : Type 0} → LoadMarks → Entry P → Loaded P
 replied ms e = record { answer = e .answer; marks = together ms (e .marks); state = e .state; feeIds = e .feeIds }
 
 -- The load with so many examinations to come, after some with these marks. Where none is left, it stands at a passed header.
-unfoldable pub loadedFrom : ℕ → Settings → LoadMarks → State → List ℕ → (w : List ℕ) → (first : ℕ) → (last : Bool) → Loaded
+unfoldable pub loadedFrom : ℕ → Settings → LoadMarks → State → List ℕ → (w : List ℕ) → (first : ℕ) → (last : Bool) → Loaded Part
 loadedFrom zero set ms s feeIds w first last = record { answer = gives passed; marks = ms; state = s; feeIds = feeIds }
 loadedFrom (suc n) set ms s feeIds w first last =
     let e = examined set s feeIds w first last in
@@ -64,5 +64,5 @@ loadedFrom (suc n) set ms s feeIds w first last =
     (replied ms e)
 
 -- A load. Each header that is passed moves the byte place on by 64 or more, so that length / 64 + 1 examinations are enough.
-unfoldable pub loaded : Settings → State → List ℕ → (w : List ℕ) → (first : ℕ) → (last : Bool) → Loaded
+unfoldable pub loaded : Settings → State → List ℕ → (w : List ℕ) → (first : ℕ) → (last : Bool) → Loaded Part
 loaded set s feeIds w first last = loadedFrom (length w / 64 + 1) set noLoadMarks s feeIds w first last

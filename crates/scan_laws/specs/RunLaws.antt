@@ -48,7 +48,7 @@ unfolding loadedFrom
 load-answers zero set ms s feeIds w first last h = absurd (omega arith)
 load-answers (suc n) set ms s feeIds w first last h =
     let e = examined set s feeIds w first last in
-    by-test (λ (r : Loaded). isPassed (r .answer) ≡ false) (isPassed (e .answer)) _ _
+    by-test (λ (r : Loaded Part). isPassed (r .answer) ≡ false) (isPassed (e .answer)) _ _
     (λ passes.
     let p = examined-passed set s feeIds w first last passes in
     load-answers n set _ (e .state) (e .feeIds) w first last (fewer s (e .state) w first n (p .starts) (p .ends) (p .least) h))
@@ -66,7 +66,7 @@ unfolding loadedFrom
 load-wants zero set ms s feeIds w first last = λ e. absurd (false≢true e)
 load-wants (suc n) set ms s feeIds w first last =
     let e = examined set s feeIds w first last in
-    by-test (λ (r : Loaded). isWant (r .answer) ≡ true → last ≡ false) (isPassed (e .answer)) _ _
+    by-test (λ (r : Loaded Part). isWant (r .answer) ≡ true → last ≡ false) (isPassed (e .answer)) _ _
     (λ passes. load-wants n set _ (e .state) (e .feeIds) w first last)
     (λ stops wants. examined-wants set s feeIds w first last wants .more)
 
