@@ -287,7 +287,7 @@ is-shown s feeIds w first a h =
     let begins = ltb-false place first starts in
     record { starts = begins; ends = omega (arith, begins, h, length-drop (place - first) w) }
 
-turn-known : (set : Settings) (s : State) (feeIds : List ℕ) (h : RdhCru) → Known h (turn set (s .progress) feeIds h)
+pub turn-known : (set : Settings) (s : State) (feeIds : List ℕ) (h : RdhCru) → Known h (turn set (s .progress) feeIds h)
 unfolding turn
 turn-known set s feeIds h = outcome-known set _ _ h
 
@@ -358,7 +358,7 @@ examined-passed set s feeIds w first last =
     (λ a long more cuts e. absurd (false≢true e))
     (λ a long whole e. entry-passed set s feeIds w first (s .progress .place .0 + 64 - first) a long e)
 
-place-moves : (skip : Bool) (t : Turn) (h : RdhCru) (place left end : ℕ) → Known h t → place + 64 ≤ end
+pub place-moves : (skip : Bool) (t : Turn) (h : RdhCru) (place left end : ℕ) → Known h t → place + 64 ≤ end
     → place + 64 ≤ placeAfter skip t h place left end
 unfolding placeAfter
 place-moves skip FeeIdsFull h place left end k ends = omega arith

@@ -116,7 +116,7 @@ module _ (set : Settings) (s : State) (feeIds w : List ℕ) (first : ℕ) (last 
 
 -- ---- the bytes of a part
 
-fitting : (n : ℕ) (l : List ℕ) → take (min n (length l)) l ≡ take n l
+pub fitting : (n : ℕ) (l : List ℕ) → take (min n (length l)) l ≡ take n l
 fitting n l = by-length (leb n (length l)) refl
   where
     by-length : (b : Bool) → leb n (length l) ≡ b → take (min n (length l)) l ≡ take n l

@@ -1,0 +1,40 @@
+-- The chain: "what these steps define over the whole recording, with no window or want, from settings, starting state and FEE list"
+-- (document 01, "The chain and one examination").
+use Prim.Native.Nat.{ℕ, zero, suc, _+_, _/_}
+use mathlib.Core.Bool.{Bool, true, false}
+use mathlib.Core.List.{List, [], _∷_}
+use lib.ListN.{length}
+use Rattle.basis.specs.Pick.{pick}
+use Rattle.basis.specs.Refusals.{Answer, gives, refuses}
+use Rattle.scan_cdp.specs.Answers.{Found}
+use Rattle.scan_cdp.specs.Steps.{Entry, stepIn}
+use Rattle.scan_cdp.specs.declared.Settings.{Settings}
+use Rattle.scan_cdp.specs.declared.State.{State}
+
+-- What a reader keeps from call to call: the state, and the FEE ids in the list that it lends.
+pub record Kept : Type 0 where
+  pub state : State
+  pub feeIds : List ℕ
+
+-- What "state and list then hold".
+abbrev pub left : {P : Type 0} → Entry P → Kept
+left e = record { state = e .state; feeIds = e .feeIds }
+
+-- The entry that is next where a reader stands.
+abbrev pub next : List ℕ → Settings → Kept → Entry (List ℕ)
+next recording set k = stepIn recording set (k .state) (k .feeIds)
+
+abbrev pub isRefused : {P : Type 0} → Answer (Found P) → Bool
+isRefused (gives found) = false
+isRefused (refuses number values) = true
+
+-- At most n entries. "A refused one is last: 1 to 4, or 6 if state and list alone meet it".
+unfoldable pub chainOf : ℕ → List ℕ → Settings → Kept → List (Entry (List ℕ))
+chainOf zero recording set k = []
+chainOf (suc n) recording set k =
+    let e = next recording set k in
+    e ∷ pick (isRefused (e .answer)) [] (chainOf n recording set (left e))
+
+-- The chain. Each entry but the last moves the byte place on by 64 or more, so that length / 64 + 1 entries are all (`ChainLaws`).
+unfoldable pub chain : List ℕ → Settings → Kept → List (Entry (List ℕ))
+chain recording set k = chainOf (length recording / 64 + 1) recording set k
