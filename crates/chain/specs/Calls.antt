@@ -18,6 +18,8 @@ use Rattle.scan_cdp.specs.declared.Part.{Part}
 use Rattle.scan_cdp.specs.declared.Settings.{Settings}
 use Rattle.scan_laws.specs.Runs.{isRefusal}
 use Rattle.chain.specs.Chain.{Kept, isRefused, left}
+use Rattle.chain.specs.Following as Following
+use Rattle.chain.specs.Following.{Each, cutInto, repliesOf}
 
 -- ---- calls
 
@@ -43,8 +45,7 @@ windowOf (loads w) = w
 
 -- All calls lend windows of the recording.
 abbrev pub Windows : List ℕ → List Call → Type 0
-Windows recording [] = Unit {0}
-Windows recording (c ∷ cs) = WindowOf recording (windowOf c) × Windows recording cs
+Windows recording calls = Each (λ (c : Call). WindowOf recording (windowOf c)) calls
 
 -- ---- what the calls reply
 
@@ -84,11 +85,8 @@ abbrev pub endsChain : Reply → Bool
 endsChain r = isRefused (answerOf r) && (not (isRefusal 6 (answerOf r)) || unusable (keptBy r .state) (keptBy r .feeIds))
 
 -- The replies to a list of calls, each given the state and FEE list that the one before left, up to and with the one that ends the chain.
-unfoldable pub replies : Settings → Kept → List Call → List Reply
-replies set k [] = []
-replies set k (c ∷ cs) =
-    let r = replyTo set k c in
-    r ∷ pick (endsChain r) [] (replies set (keptBy r) cs)
+abbrev pub replies : Settings → Kept → List Call → List Reply
+replies set = repliesOf (replyTo set) keptBy endsChain
 
 -- ---- what the chain says that they reply
 
@@ -120,9 +118,8 @@ heldBack set k w e =
     free))))
 
 -- A reply, and the entries that are still to come.
-pub record Served : Type 0 where
-  pub reply : Reply
-  pub rest : List (Entry (List ℕ))
+abbrev pub Served : Type 0
+Served = Following.Served (Entry (List ℕ)) Reply
 
 -- "An examination answers with the next entry".
 abbrev pub examinedBy : Kept → Entry (List ℕ) → List (Entry (List ℕ)) → Held → Served
@@ -149,11 +146,6 @@ unfoldable pub servedBy : Settings → Kept → Call → Entry (List ℕ) → Li
 servedBy set k (examines w) e es = examinedBy k e es (heldBack set k w e)
 servedBy set k (loads w) e es = loadAlong set w noLoadMarks k (e ∷ es)
 
--- The replies that the chain's entries are cut into, one run of them for each call. Where no entry is left, the chain has ended, and nothing
--- more is said: "a new chain starts there".
-unfoldable pub along : Settings → Kept → List Call → List (Entry (List ℕ)) → List Reply
-along set k [] es = []
-along set k (c ∷ cs) [] = []
-along set k (c ∷ cs) (e ∷ es) =
-    let o = servedBy set k c e es in
-    o .reply ∷ along set (keptBy (o .reply)) cs (o .rest)
+-- The replies that the chain's entries are cut into, one run of them for each call.
+abbrev pub along : Settings → Kept → List Call → List (Entry (List ℕ)) → List Reply
+along set = cutInto (servedBy set) keptBy

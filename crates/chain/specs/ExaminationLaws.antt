@@ -90,8 +90,8 @@ entry-read set s feeIds w first t h end starts =
     let p = s .progress in
     let begins : (p .place .0 - first) + 64 ≡ p .place .0 + 64 - first = omega (arith, starts) in
     let answer =
-        answer-read w (p .place .0) first (p .place .0 + 64 - first) (set .«skip_payload») t h (startOf (p .load) (p .position)) (p .position)
-        begins in
+    answer-read w (p .place .0) first (p .place .0 + 64 - first) (set .«skip_payload») t h (startOf (p .load) (p .position)) (p .position)
+    begins in
     let e = entryOf set t s feeIds h (shown (p .place .0) first w) end in
     λ i. record { answer = answer i; marks = e .marks; state = e .state; feeIds = e .feeIds }
 
