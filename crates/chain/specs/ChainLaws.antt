@@ -26,7 +26,7 @@ pub record MovesOn (recording : List ℕ) (k k′ : Kept) : Type 0 where
   pub whole : placeOf k + 64 ≤ length recording
   pub least : placeOf k + 64 ≤ placeOf k′
 
-next-unusable : (recording : List ℕ) (set : Settings) (k : Kept) → unusable (k .state) (k .feeIds) ≡ true
+pub next-unusable : (recording : List ℕ) (set : Settings) (k : Kept) → unusable (k .state) (k .feeIds) ≡ true
     → isRefused (next recording set k .answer) ≡ true
 unfolding step
 next-unusable recording set k e = ap (λ (x : Entry (List ℕ)). isRefused (x .answer)) (on _ _ e)
@@ -68,11 +68,11 @@ next-moves recording set k goes = by-state (unusable (k .state) (k .feeIds)) ref
 -- ---- the chain, one entry at a time
 
 -- So many entries are enough from here on.
-record Enough (recording : List ℕ) (n : ℕ) (k : Kept) : Type 0 where
+pub record Enough (recording : List ℕ) (n : ℕ) (k : Kept) : Type 0 where
   pub some : 1 ≤ n
   pub all : length recording < placeOf k + 64 * n
 
-enough-left : (recording : List ℕ) (n : ℕ) (k k′ : Kept) → Enough recording (suc n) k → MovesOn recording k k′ → Enough recording n k′
+pub enough-left : (recording : List ℕ) (n : ℕ) (k k′ : Kept) → Enough recording (suc n) k → MovesOn recording k k′ → Enough recording n k′
 enough-left recording n k k′ enough moves =
     record {
       some = omega (arith, enough .all, moves .whole);
@@ -97,7 +97,7 @@ same-chain (suc n) (suc m) recording set k one other =
     same-chain n m recording set (left e)
     (enough-left recording n k (left e) one moves) (enough-left recording m k (left e) other moves)))
 
-chain-enough : (recording : List ℕ) (k : Kept) → Enough recording (length recording / 64 + 1) k
+pub chain-enough : (recording : List ℕ) (k : Kept) → Enough recording (length recording / 64 + 1) k
 chain-enough recording k = record { some = omega arith; all = omega arith }
 
 -- The chain is the next entry and, unless that is refused, the chain from there on.

@@ -109,7 +109,7 @@ place-uncut skip HandedOut h place left left′ end end′ e e′ =
     ap (λ (b : Bool). pick skip (place + h .«offset_new_packet») (pick b end (place + h .«memory_size»))) e
     ∙ sym (ap (λ (b : Bool). pick skip (place + h .«offset_new_packet») (pick b end′ (place + h .«memory_size»))) e′)
 
-entry-uncut : (set : Settings) (t : Turn) (s : State) (feeIds : List ℕ) (h : RdhCru) (rest rest′ : List ℕ) (end end′ : ℕ)
+pub entry-uncut : (set : Settings) (t : Turn) (s : State) (feeIds : List ℕ) (h : RdhCru) (rest rest′ : List ℕ) (end end′ : ℕ)
     → cut (set .«skip_payload») t h (length rest) ≡ false → cut (set .«skip_payload») t h (length rest′) ≡ false
     → answerIn t h (payloadOf (set .«skip_payload») t h rest) (startOf (s .progress .load) (s .progress .position)) (s .progress .position)
     ≡ answerIn t h (payloadOf (set .«skip_payload») t h rest′) (startOf (s .progress .load) (s .progress .position)) (s .progress .position)
@@ -167,7 +167,7 @@ needs-payload true HandedOut h payload from position size e = absurd (true≢fal
 needs-payload false HandedOut h payload from position size e = refl
 
 -- more bytes do not cut what fewer did not
-cut-more : (skip : Bool) (t : Turn) (h : RdhCru) (size size′ : ℕ) → size ≤ size′ → cut skip t h size ≡ false → cut skip t h size′ ≡ false
+pub cut-more : (skip : Bool) (t : Turn) (h : RdhCru) (size size′ : ℕ) → size ≤ size′ → cut skip t h size ≡ false → cut skip t h size′ ≡ false
 unfolding cut
 cut-more skip FeeIdsFull h size size′ more e = refl
 cut-more skip BadOffset h size size′ more e = refl
@@ -210,7 +210,7 @@ ended-at k w a b same =
     }
 
 -- a header that is handed out has the payload that the window shows
-answer-shown : (recording : List ℕ) (w : Window) (of : WindowOf recording w) (place : ℕ) (starts : w .first ≤ place) (skip : Bool) (t : Turn)
+pub answer-shown : (recording : List ℕ) (w : Window) (of : WindowOf recording w) (place : ℕ) (starts : w .first ≤ place) (skip : Bool) (t : Turn)
     (h : RdhCru) (from position : Position) → cut skip t h (length (shown place (w .first) (w .bytes))) ≡ false
     → cut skip t h (length (drop place recording)) ≡ false
     → answerIn t h (payloadOf skip t h (shown place (w .first) (w .bytes))) from position

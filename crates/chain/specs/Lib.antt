@@ -6,3 +6,4 @@ pub mod WindowOfLaws
 pub mod ExaminationLaws
 pub mod LoadLaws
 pub mod Demand3
+pub mod AddedBytes

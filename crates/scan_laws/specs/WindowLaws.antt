@@ -34,7 +34,7 @@ read-whole h rest false e =
     ∙ omega (arith, length-drop 64 rest, ltb-false (length rest) (64 + payloadSize h) e)
 
 -- As many bytes of a payload are handed out as are read.
-payload-length : (skip : Bool) (h : RdhCru) (rest : List ℕ)
+pub payload-length : (skip : Bool) (h : RdhCru) (rest : List ℕ)
     → length (payloadOf skip HandedOut h rest) ≡ readSize skip (cut skip HandedOut h (length rest)) h
 unfolding payloadOf readSize cut
 payload-length true h rest = refl
