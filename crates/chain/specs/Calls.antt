@@ -19,7 +19,7 @@ use Rattle.scan_cdp.specs.declared.Settings.{Settings}
 use Rattle.scan_laws.specs.Runs.{isRefusal}
 use Rattle.chain.specs.Chain.{Kept, isRefused, left}
 use Rattle.chain.specs.Following as Following
-use Rattle.chain.specs.Following.{Each, cutInto, repliesOf}
+use Rattle.chain.specs.Following.{Each, cutInto, leftOver, repliesOf}
 
 -- ---- calls
 
@@ -149,3 +149,7 @@ servedBy set k (loads w) e es = loadAlong set w noLoadMarks k (e ∷ es)
 -- The replies that the chain's entries are cut into, one run of them for each call.
 abbrev pub along : Settings → Kept → List Call → List (Entry (List ℕ)) → List Reply
 along set = cutInto (servedBy set) keptBy
+
+-- The chain's entries that are still to come after the calls.
+abbrev pub toCome : Settings → Kept → List Call → List (Entry (List ℕ)) → List (Entry (List ℕ))
+toCome set = leftOver (servedBy set) keptBy

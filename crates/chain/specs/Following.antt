@@ -27,6 +27,14 @@ module _ {Kept Call Entry Reply : Type 0} (servedBy : Kept → Call → Entry �
       let o = servedBy k c e es in
       o .reply ∷ cutInto (keptBy (o .reply)) cs (o .rest)
 
+  -- The entries that no call has taken.
+  unfoldable pub leftOver : Kept → List Call → List Entry → List Entry
+  leftOver k [] es = es
+  leftOver k (c ∷ cs) [] = []
+  leftOver k (c ∷ cs) (e ∷ es) =
+      let o = servedBy k c e es in
+      leftOver (keptBy (o .reply)) cs (o .rest)
+
 -- All calls of a list have a property.
 abbrev pub Each : {Call : Type 0} → (Call → Type 0) → List Call → Type 0
 Each Fits [] = Unit {0}

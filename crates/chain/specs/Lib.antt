@@ -7,3 +7,4 @@ pub mod ExaminationLaws
 pub mod LoadLaws
 pub mod Demand3
 pub mod AddedBytes
+pub mod Packets
