@@ -136,7 +136,7 @@ loadedBy ms k e es onward free = pick (isPassed (e .answer)) onward (record { re
 loadedBy ms k e es onward (held a) = record { reply = load (heldLoad ms k a); rest = e ∷ es }
 
 -- "a load with the next ones up to the first not passed, their marks together". The chain never ends with an entry that is passed, so that
--- the first clause is not met (`Demand3`).
+-- the first clause is not met (`CallsFollow`).
 unfoldable pub loadAlong : Settings → Window → LoadMarks → Kept → List (Entry (List ℕ)) → Served
 loadAlong set w ms k [] = record { reply = load (heldLoad ms k (gives passed)); rest = [] }
 loadAlong set w ms k (e ∷ es) = loadedBy ms k e es (loadAlong set w (together ms (e .marks)) (left e) es) (heldBack set k w e)

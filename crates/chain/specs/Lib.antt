@@ -5,6 +5,6 @@ pub mod ChainLaws
 pub mod WindowOfLaws
 pub mod ExaminationLaws
 pub mod LoadLaws
-pub mod Demand3
+pub mod CallsFollow
 pub mod AddedBytes
 pub mod Packets

@@ -28,7 +28,7 @@ use Rattle.scan_laws.specs.WindowLaws.{step-ended, step-header}
 use Rattle.chain.specs.Calls.{Call, Held, Reply, Served, Window, Windows, along, answerOf, endsChain, examination, examinedBy, examines, free, held, heldBack, heldLoad, keptBy, load, loadAlong, loadedBy, loads, needed, replies, servedBy, toCome}
 use Rattle.chain.specs.Chain.{Kept, chain, chainOf, isRefused, left, next}
 use Rattle.chain.specs.ChainLaws.{placeOf}
-use Rattle.chain.specs.Demand3.{demand-3}
+use Rattle.chain.specs.CallsFollow.{calls-follow}
 use Rattle.chain.specs.Following.{cutInto, leftOver}
 
 -- A packet as it is handed out.
@@ -176,7 +176,7 @@ along-packets set k (c ∷ cs) (e ∷ es) =
 pub each-once : EachOnce
 each-once recording set start calls windows =
     ap (λ (rs : List Reply). packetsOf rs ++ packetsIn (toCome set start calls (chain recording set start)))
-    (demand-3 recording set start calls windows)
+    (calls-follow recording set start calls windows)
     ∙ along-packets set start calls (chain recording set start)
 
 -- ---- exactly the matching headers
@@ -339,4 +339,4 @@ along-ends set k (c ∷ cs) (e ∷ es) few free-all =
 pub reaches-end : ReachesEnd
 reaches-end recording set start calls windows enough free-all =
     along-ends set start calls (chain recording set start) enough
-    (ap noneHeld (sym (demand-3 recording set start calls windows)) ∙ free-all)
+    (ap noneHeld (sym (calls-follow recording set start calls windows)) ∙ free-all)

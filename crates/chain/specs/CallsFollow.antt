@@ -1,4 +1,4 @@
--- Demand 3 in one piece. The statement stands first; what follows is its proof.
+-- All calls follow the chain: the first part of demand 3. The statement stands first; what follows is its proof.
 use Prim.Native.Nat.{ℕ, _+_, _/_}
 use mathlib.Core.Path.{_≡_, ap, sym, _∙_}
 use mathlib.Core.List.{List, [], _∷_}
@@ -17,8 +17,8 @@ use Rattle.chain.specs.LoadLaws.{HeldFine, entry-ends, held-fine, load-f
 
 -- For any recording, settings, starting state and FEE list, and for any list of calls that lend windows of that recording, the replies are
 -- the chain's entries, cut into consecutive runs.
-abbrev pub Demand3 : Type 0
-Demand3 =
+abbrev pub CallsFollow : Type 0
+CallsFollow =
     (recording : List ℕ) (set : Settings) (start : Kept) (calls : List Call) → Windows recording calls
     → replies set start calls ≡ along set start calls (chain recording set start)
 
@@ -68,7 +68,7 @@ serves recording set k (loads w) of =
 
 -- ---- all calls
 
-pub demand-3 : Demand3
-demand-3 recording set start calls windows =
+pub calls-follow : CallsFollow
+calls-follow recording set start calls windows =
     all-follow (chain recording set) (next recording set) (behind recording set) (chain-unfolds recording set)
     (replyTo set) keptBy endsChain (servedBy set) (λ (c : Call). WindowOf recording (windowOf c)) (serves recording set) start calls windows

@@ -1,0 +1,2 @@
+pub mod MarkedCases
+pub mod Demand3

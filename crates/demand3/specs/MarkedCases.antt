@@ -1,0 +1,141 @@
+-- The cases that document 01 marks with P in "At the edges", as one list of inputs and expected replies, and the theorem that the definitions
+-- agree with the list.
+use Prim.Native.Nat.{ℕ}
+use mathlib.Core.Bool.{Bool, true, false}
+use mathlib.Core.Path.{_≡_, refl}
+use mathlib.Core.List.{List, [], _∷_, _++_}
+use lib.IntN.{pos, negsuc}
+use lib.ListN.{replicate}
+use Rattle.basis.specs.Bytes.{bytesOf, little, numberAt}
+use Rattle.basis.specs.Refusals.{Answer, gives, refuses}
+use Rattle.filter.specs.Filter.{matches}
+use Rattle.filter.specs.declared.FilterTarget.the-variants.{ItsLayerStave}
+use Rattle.filter.specs.declared.Option8.the-variants as Option8
+use Rattle.filter.specs.declared.Option16.the-variants as Option16
+use Rattle.filter.specs.FilterLaws.{other-uplink-taken}
+use Rattle.its.specs.StaveNames.{Answered}
+use Rattle.its.specs.StaveNameLaws.{L9-70-given}
+use Rattle.rdh.specs.Subfields.{layerOf, staveOf}
+use Rattle.serde_rdh.specs.Layout.{decoded, header, span}
+use Rattle.sanity.specs.Tests.{allTests, anyFails, cruTests, feeIdTests, rdh0Tests, rdh1Tests, rdh2Tests, rdh3Tests, sound}
+use Rattle.scan_cdp.specs.Answers.{Found, handed}
+use Rattle.scan_cdp.specs.Steps.{cut, entryOf, newState, payloadOf, step, stepIn, turn, unusable}
+use Rattle.scan_cdp.specs.Turns.{filtered, skipped, turnOf}
+use Rattle.stats.specs.Listed.{full, member, twice}
+use Rattle.scan_cdp.specs.declared.Settings.{Settings}
+use Rattle.text.specs.Ascii.{ascii}
+use Rattle.validators.specs.Verdict.{soundTo}
+use Rattle.validators.specs.declared.HeaderId.the-variants.{NotSettled}
+
+-- The header of document 01's listing example, with a FEE id, an offset, a bunch counter and a trigger type of the case's own.
+unfoldable pub sample : (feeId offset bc trigger : ℕ) → List ℕ
+sample feeId offset bc trigger =
+    7 ∷ 64 ∷ bytesOf 2 feeId ++ (0 ∷ 32 ∷ 0 ∷ 0 ∷ [])
+    ++ bytesOf 2 offset ++ bytesOf 2 64 ++ (2 ∷ 0 ∷ 1 ∷ 0 ∷ [])
+    ++ bytesOf 4 bc ++ bytesOf 4 16
+    ++ (2 ∷ replicate 7 0)
+    ++ bytesOf 4 trigger ++ replicate 28 0
+
+-- No filter, payload read, statistics on; one FEE place.
+abbrev plain : Settings
+plain =
+    record {
+      filter = record { «filter_link» = Option8.None; «filter_fee» = Option16.None; «filter_its_stave» = Option16.None };
+      «skip_payload» = false;
+      stats = true;
+    }
+
+-- An input, and the reply that document 01 gives for it.
+pub data Case : Type 0 where
+  -- a header with this offset at the start of a recording: what the scan answers
+  offset : (n : ℕ) → Answer (Found (List ℕ)) → Case
+  -- a header with this FEE id, bunch counter and trigger type: whether it is sound, on a validator that has settled nothing, without ITS
+  soundness : (feeId bc trigger : ℕ) → Bool → Case
+  -- a FEE id: its layer and stave
+  fee-id : (n layer stave : ℕ) → Case
+  -- a stave filter and a FEE id: whether it is taken
+  stave-filter : (setting feeId : ℕ) → Bool → Case
+  -- a stave name: what its call answers
+  name : (text : List ℕ) → Answer ℕ → Case
+
+-- A packet with no payload, at position 0.
+abbrev given : ℕ → Answer (Found (List ℕ))
+given n = gives (handed (decoded (sample 0x502A n 0 0x4813)) [] (record { 0 = 0 }))
+
+pub marked : List Case
+marked =
+    -- "P offset 63 gives 2 with -1; P 64 and P 10,064 pass; P 10,065 gives 2 with 10,001."
+    offset 63 (refuses 2 (negsuc 0 ∷ pos 0 ∷ []))
+    ∷ offset 64 (given 64)
+    ∷ offset 10064 (given 10064)
+    ∷ offset 10065 (refuses 2 (pos 10001 ∷ pos 0 ∷ []))
+    -- "P BC 0xdeb sound; P 0xdec not. P trigger type 0 not sound; P 0x4813 sound; 0x4000 sound, P 0x8000 not."
+    ∷ soundness 0x502A 0xdeb 0x4813 true
+    ∷ soundness 0x502A 0xdec 0x4813 false
+    ∷ soundness 0x502A 0 0 false
+    ∷ soundness 0x502A 0 0x4813 true
+    ∷ soundness 0x502A 0 0x8000 false
+    -- "P FEE 0x502A is layer 5, stave 42; 0x0100 sound; 0x0040, P 0x6030 (stave 48) and 0x7000 (layer 7) not."
+    ∷ fee-id 0x502A 5 42
+    ∷ soundness 0x6030 0 0x4813 false
+    -- "P stave filter 0x502A takes 0x522A. P the name L9_70 is 0x1006."
+    ∷ stave-filter 0x502A 0x522A true
+    ∷ name (ascii "L9_70") (gives 0x1006)
+    ∷ []
+
+-- The definitions answer an input with that reply.
+abbrev pub Agrees : Case → Type 0
+Agrees (offset n reply) = stepIn (sample 0x502A n 0 0x4813) plain newState (0 ∷ []) .answer ≡ reply
+Agrees (soundness feeId bc trigger reply) =
+    soundTo (record { «header_id» = NotSettled; its = false }) (decoded (sample feeId 64 bc trigger)) ≡ reply
+Agrees (fee-id n layer stave) = (layerOf n ≡ layer) × (staveOf n ≡ stave)
+Agrees (stave-filter setting feeId reply) = (link : ℕ) → matches (ItsLayerStave setting) link feeId ≡ reply
+Agrees (name text reply) = (answer : Answer ℕ) → Answered text answer → answer ≡ reply
+
+abbrev pub AllAgree : List Case → Type 0
+AllAgree [] = Unit {0}
+AllAgree (c ∷ cs) = Agrees c × AllAgree cs
+
+-- One theorem: the definitions agree with the list.
+pub marked-agree : AllAgree marked
+unfolding marked sample bytesOf numberAt little decoded header span step unusable entryOf turn turnOf filtered skipped full member twice payloadOf cut soundTo sound allTests feeIdTests rdh0Tests rdh1Tests rdh2Tests rdh3Tests cruTests anyFails
+marked-agree = (
+  refl,
+  (
+    refl,
+    (
+      refl,
+      (
+        refl,
+        (
+          refl,
+          (
+            refl,
+            (
+              refl,
+              (
+                refl,
+                (
+                  refl,
+                  (
+                    (refl, refl),
+                    (
+                      refl,
+                      (
+                        other-uplink-taken,
+                        (
+                          L9-70-given,
+                          tt,
+                        ),
+                      ),
+                    ),
+                  ),
+                ),
+              ),
+            ),
+          ),
+        ),
+      ),
+    ),
+  ),
+)
