@@ -1,2 +1,3 @@
 pub mod MarkedCases
 pub mod Demand3
+pub mod Example

@@ -37,7 +37,7 @@ sample feeId offset bc trigger =
     ++ bytesOf 4 trigger ++ replicate 28 0
 
 -- No filter, payload read, statistics on; one FEE place.
-abbrev plain : Settings
+abbrev pub plain : Settings
 plain =
     record {
       filter = record { «filter_link» = Option8.None; «filter_fee» = Option16.None; «filter_its_stave» = Option16.None };

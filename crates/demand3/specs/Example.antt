@@ -1,0 +1,86 @@
+-- The statement on a small recording, computed: two packets of 64 bytes, and four calls on windows that meet the premises. The replies and the
+-- chain are written out, so that a reader sees that they agree.
+use Prim.Native.Nat.{ℕ}
+use mathlib.Core.Bool.{Bool, true, false, false≢true}
+use mathlib.Core.Path.{_≡_, refl}
+use mathlib.Core.List.{List, [], _∷_, _++_}
+use native.Mathlib.Omega.{arith}
+use lib.ListN.{length, drop, take}
+use Rattle.basis.specs.Bytes.{bytesOf, little, numberAt}
+use Rattle.basis.specs.Refusals.{Answer, gives, refuses}
+use Rattle.serde_rdh.specs.Layout.{decoded, header, span}
+use Rattle.scan_cdp.specs.Answers.{Found, handed, wants}
+use Rattle.scan_cdp.specs.Loads.{loaded, loadedFrom, together}
+use Rattle.scan_cdp.specs.Steps.{Entry, cut, ended, entryOf, initialOf, marksOf, newState, payloadOf, placeAfter, placesListed, progressAfter, raised, step, tallied, turn, unusable, usedListed}
+use Rattle.scan_cdp.specs.Turns.{filtered, skipped, turnOf}
+use Rattle.scan_cdp.specs.Windows.{bytesAt, examined, outside, partAt}
+use Rattle.stats.specs.Counts.{added}
+use Rattle.stats.specs.Listed.{full, member, placesAfter, twice, usedAfter}
+use Rattle.chain.specs.Calls.{Call, Reply, Window, WindowOf, Windows, along, answerOf, examines, loads, replies, replyTo}
+use Rattle.chain.specs.CallsFollow.{calls-follow}
+use Rattle.chain.specs.Chain.{Kept, chain, chainOf}
+use Rattle.chain.specs.Following.{repliesOf}
+use Rattle.demand3.specs.MarkedCases.{plain, sample}
+
+-- Two headers without payload, of two FEE ids.
+unfoldable pub recording : List ℕ
+recording = sample 0x502A 64 0 0x4813 ++ sample 0x3006 64 0 0x4813
+
+-- A scan that has not begun, with four FEE places.
+abbrev pub start : Kept
+start = record { state = newState; feeIds = 0 ∷ 0 ∷ 0 ∷ 0 ∷ [] }
+
+-- The window of so many bytes from a place on.
+abbrev windowAt : ℕ → ℕ → Bool → Window
+windowAt first size last = record { bytes = take size (drop first recording); first = first; last = last }
+
+-- An examination that sees 10 bytes; a load that sees the first packet; an examination of the second; a load at the end.
+pub calls : List Call
+calls =
+    examines (windowAt 0 10 false)
+    ∷ loads (windowAt 0 70 false)
+    ∷ examines (windowAt 64 64 true)
+    ∷ loads (windowAt 0 128 true)
+    ∷ []
+
+abbrev answers : List Reply → List (Answer (Found (List ℕ)))
+answers [] = []
+answers (r ∷ rs) = answerOf r ∷ answers rs
+
+abbrev entryAnswers : List (Entry (List ℕ)) → List (Answer (Found (List ℕ)))
+entryAnswers [] = []
+entryAnswers (e ∷ es) = e .answer ∷ entryAnswers es
+
+abbrev packet : ℕ → ℕ → Answer (Found (List ℕ))
+packet feeId position = gives (handed (decoded (sample feeId 64 0 0x4813)) [] (record { 0 = position }))
+
+-- A want, the two packets, and the end.
+pub calls-answer : answers (replies plain start calls)
+    ≡ gives (wants (record { 0 = 0 }) 64) ∷ packet 0x502A 0 ∷ packet 0x3006 64 ∷ refuses 1 [] ∷ []
+unfolding recording calls sample bytesOf numberAt little decoded header span repliesOf replyTo examined outside unusable twice member step entryOf marksOf tallied raised added initialOf turn turnOf filtered skipped full payloadOf cut placesListed placesAfter usedListed usedAfter progressAfter placeAfter ended loaded loadedFrom together bytesAt partAt
+calls-answer = refl
+
+-- The chain itself: the two packets, and the end.
+pub chain-answers : entryAnswers (chain recording plain start) ≡ packet 0x502A 0 ∷ packet 0x3006 64 ∷ refuses 1 [] ∷ []
+unfolding recording sample bytesOf numberAt little decoded header span chain chainOf unusable twice member step entryOf marksOf tallied raised added initialOf turn turnOf filtered skipped full payloadOf cut placesListed placesAfter usedListed usedAfter progressAfter placeAfter ended
+chain-answers = refl
+
+-- The windows are windows of the recording, so that the theorem speaks of these calls.
+pub windows : Windows recording calls
+unfolding calls recording sample bytesOf
+windows = (
+  record { bytes = refl; last = λ e. absurd (false≢true e) },
+  (
+    record { bytes = refl; last = λ e. absurd (false≢true e) },
+    (
+      record { bytes = refl; last = λ e. omega arith },
+      (
+        record { bytes = refl; last = λ e. omega arith },
+        tt,
+      ),
+    ),
+  ),
+)
+
+pub calls-follow-here : replies plain start calls ≡ along plain start calls (chain recording plain start)
+calls-follow-here = calls-follow recording plain start calls windows
