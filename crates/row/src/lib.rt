@@ -26,7 +26,8 @@ pub fn row(h: RdhCru, out: &mut [u8]) -> Written
     Written::Text(put_row(out, 0, h))
 }
 
-fn put_row(out: &mut [u8], at: usize, h: RdhCru) -> usize
+// Puts the row of `h` at a place, for whoever puts more in front of it or behind it.
+pub fn put_row(out: &mut [u8], at: usize, h: RdhCru) -> usize
     ensures { λ r. ⌜ Put (now (out .entry)) at (rowText h) (now (out .exit)) r ⌝ }
 {
     let at = put_rdh0(out, at, h.rdh0);

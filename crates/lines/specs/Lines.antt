@@ -1,0 +1,55 @@
+-- The lines of the listing (document 01, "At the edges"): "For each packet it prints the position (`0x`, upper-case digits), a colon, a
+-- blank, the `Display` row; if not sound, a further line with position, colon, blank and verdict text. [..] Last come `seen`, `filtered`,
+-- `payload` and their counts as they stand, then `end` and that refusal's number, a line each, in decimal."
+use Prim.Native.Nat.{ℕ, _-_}
+use Prim.Native.String.{String}
+use mathlib.Core.List.{List, [], _∷_, _++_, map}
+use lib.Dec.{ltb}
+use Rattle.basis.specs.Pick.{pick}
+use Rattle.rdh.specs.declared.rdh_cru.RdhCru.{RdhCru}
+use Rattle.text.specs.Ascii.{ascii}
+use Rattle.text.specs.Numerals.{decimal, numeral}
+use Rattle.row.specs.Row.{rowText}
+use Rattle.validators.specs.Verdict.{soundTo, textOf}
+use Rattle.validators.specs.declared.RdhCruSanityValidator.{RdhCruSanityValidator}
+use Rattle.scan_cdp.specs.declared.Counts.{Counts}
+
+-- The end of a line.
+abbrev pub newline : List ℕ
+newline = 10 ∷ []
+
+-- A byte in upper case: that of a letter is 32 below.
+abbrev pub upper : ℕ → ℕ
+upper b = pick (ltb b 97) b (b - 32)
+
+-- "the position (`0x`, upper-case digits)": 16 digits hold every number below 2^64.
+unfoldable pub positionText : ℕ → List ℕ
+positionText n = ascii "0x" ++ map upper (numeral 16 16 n)
+
+-- A line with "position, colon, blank" and a text.
+unfoldable pub lineAt : ℕ → List ℕ → List ℕ
+lineAt position t = positionText position ++ ascii ": " ++ t ++ newline
+
+-- The line of a packet that is not sound to the validator, with its verdict text.
+unfoldable pub verdictLine : RdhCruSanityValidator → ℕ → RdhCru → List ℕ
+verdictLine v position h = pick (soundTo v h) [] (lineAt position (textOf v h))
+
+-- The lines of a packet.
+unfoldable pub packetLines : RdhCruSanityValidator → ℕ → RdhCru → List ℕ
+packetLines v position h = lineAt position (rowText h) ++ verdictLine v position h
+
+-- A name and its number in decimal.
+unfoldable pub countLine : List ℕ → ℕ → List ℕ
+countLine name n = name ++ ascii " " ++ decimal n ++ newline
+
+-- The last lines, with the counts and the number of the refusal.
+unfoldable pub lastLines : Counts → ℕ → List ℕ
+lastLines counts number =
+    countLine (ascii "seen") (counts .seen)
+    ++ countLine (ascii "filtered") (counts .filtered)
+    ++ countLine (ascii "payload") (counts .payload)
+    ++ countLine (ascii "end") number
+
+-- So many bytes hold the lines of any packet, and the last lines.
+abbrev pub room : ℕ
+room = 1024

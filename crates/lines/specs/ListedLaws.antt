@@ -1,0 +1,131 @@
+-- Laws of what a load adds to the listing, and of a verdict's line.
+use Prim.Native.Nat.{ℕ, _≤_, _<_, _^_}
+use mathlib.Core.Bool.{Bool, true, false}
+use mathlib.Core.Path.{_≡_, refl, ap, sym, _∙_}
+use mathlib.Core.List.{List, [], _++_}
+use native.Mathlib.Omega.{arith}
+use borrow.Author.Tests.{le-leb}
+use lib.ListN.{length, take, drop}
+use lib.Seq.{take-append-seam}
+use Rattle.basis.specs.Pick.{on, off}
+use Rattle.basis.specs.Refusals.{Answer, gives, refuses}
+use Rattle.rdh.specs.declared.rdh_cru.RdhCru.{RdhCru}
+use Rattle.serde_rdh.specs.Layout.{InRange}
+use Rattle.text.specs.Put.{Put}
+use Rattle.text.specs.PutLaws.{respelled}
+use Rattle.text.specs.Written.{overwritten}
+use Rattle.validators.specs.Verdict.{Checks, Judged, answerOf, answered, expectedId, settledBy, soundTo, textOf, validatorAfter}
+use Rattle.validators.specs.VerdictLaws.{suffice}
+use Rattle.validators.specs.declared.RdhCruSanityValidator.{RdhCruSanityValidator}
+use Rattle.validators.specs.declared.SanityCheck.{SanityCheck}
+use Rattle.validators.specs.declared.Verdict.{Verdict}
+use Rattle.validators.specs.declared.Verdict.the-variants.{Sound, NotSound, TooShort}
+use Rattle.scan_cdp.specs.Answers.{Found, loadAnswer, refusal}
+use Rattle.scan_cdp.specs.Loads.{Loaded}
+use Rattle.scan_cdp.specs.declared.LoadCdp.{LoadCdp}
+use Rattle.scan_cdp.specs.declared.Part.{Part}
+use Rattle.scan_cdp.specs.declared.Refusal.{Refusal}
+use Rattle.scan_cdp.specs.declared.Refusal.the-variants.{End, OffsetToNext, MemorySize, FeeIdsFull, NegativeSkip, Unusable}
+use Rattle.input_scanner.specs.Replies.{loadOf}
+use Rattle.lines.specs.Lines.{lastLines, lineAt, room, verdictLine}
+use Rattle.lines.specs.Listed.{Lists, linesOf, numberOf, validatorOf}
+use Rattle.lines.specs.declared.Listed.{Listed}
+
+-- a call that answers by the load's own answer
+pub lists : (l : Loaded Part) (v : RdhCruSanityValidator) (out : List ℕ) (at : ℕ) (r : Listed) (feeIds left : List ℕ) (a : LoadCdp)
+    → loadOf (r .load) feeIds ≡ l → r .load .answer ≡ a → r .validator ≡ validatorOf v (loadAnswer a)
+    → Put out at (linesOf v (loadAnswer a) (loadOf (r .load) feeIds)) left (r .at)
+    → length (linesOf v (loadAnswer a) (loadOf (r .load) feeIds)) ≤ room → Lists l v out at r feeIds left
+lists l v out at r feeIds left a load is validator lines short =
+    let answer : loadAnswer a ≡ l .answer = sym (ap (λ (b : LoadCdp). loadAnswer b) is) ∙ ap (λ (m : Loaded Part). m .answer) load in
+    let same : linesOf v (loadAnswer a) (loadOf (r .load) feeIds) ≡ linesOf v (l .answer) l =
+    ap (λ (b : Answer (Found Part)). linesOf v b (loadOf (r .load) feeIds)) answer
+    ∙ ap (λ (m : Loaded Part). linesOf v (l .answer) m) load in
+    record {
+      load = load;
+      validator = validator ∙ ap (λ (b : Answer (Found Part)). validatorOf v b) answer;
+      lines = respelled same lines;
+      short = omega (arith, ap length same, short);
+    }
+
+-- every refusal has the last lines, and leaves the validator
+pub lines-refused : (v : RdhCruSanityValidator) (why : Refusal) (l : Loaded Part)
+    → lastLines (l .state .progress .counts) (numberOf why) ≡ linesOf v (refusal why) l
+lines-refused v End l = refl
+lines-refused v (OffsetToNext distance position) l = refl
+lines-refused v MemorySize l = refl
+lines-refused v FeeIdsFull l = refl
+lines-refused v NegativeSkip l = refl
+lines-refused v Unusable l = refl
+
+pub validator-refused : (v : RdhCruSanityValidator) (why : Refusal) → v ≡ validatorOf v (refusal why)
+validator-refused v End = refl
+validator-refused v (OffsetToNext distance position) = refl
+validator-refused v MemorySize = refl
+validator-refused v FeeIdsFull = refl
+validator-refused v NegativeSkip = refl
+validator-refused v Unusable = refl
+
+-- the verdict that an answer has, and the length of its text
+soundIn : Answer Judged → Bool
+soundIn (gives j) = j .is-sound
+soundIn (refuses number values) = false
+
+lengthIn : Answer Judged → ℕ
+lengthIn (gives j) = j .text-length
+lengthIn (refuses number values) = 0
+
+refusalIn : Answer Judged → ℕ
+refusalIn (gives j) = 0
+refusalIn (refuses number values) = number
+
+module _ (v : RdhCruSanityValidator) (h : RdhCru) (small : expectedId (v .«header_id») (h .rdh0 .«header_id») < 256) (fits : InRange h) where
+  -- "512 bytes always suffice"
+  pub text-fits : length (textOf v h) ≤ 512
+  unfolding textOf
+  text-fits = suffice _ _ h small fits
+
+  module _ (position : ℕ) (l : List ℕ) (room : length l ≡ 512) (r : SanityCheck) (m : List ℕ) (checks : Checks v h l r m) where
+    enough : length (textOf v h) ≤ length l
+    enough = omega (arith, text-fits, room)
+
+    judged : answerOf (r .verdict) ≡ gives (record { is-sound = soundTo v h; text-length = length (textOf v h) })
+    unfolding answered
+    judged = checks .verdict ∙ on _ _ (le-leb _ _ enough)
+
+    -- the header is checked, and its ID may be settled
+    pub checked : r .validator ≡ settledBy v h
+    unfolding validatorAfter
+    checked = checks .validator ∙ on _ _ (le-leb _ _ enough)
+
+    -- a sound header has no line
+    pub sound-line : r .verdict ≡ Sound → verdictLine v position h ≡ []
+    unfolding verdictLine soundIn
+    sound-line is = on _ _ (sym (ap soundIn judged) ∙ ap (λ (x : Verdict). soundIn (answerOf x)) is)
+
+    -- one that is not sound has the line with its text, which stands at the buffer's start
+    flawed-length : (n : ℕ) → r .verdict ≡ NotSound n → n ≡ length (textOf v h)
+    unfolding lengthIn
+    flawed-length n is = sym (ap (λ (x : Verdict). lengthIn (answerOf x)) is) ∙ ap lengthIn judged
+
+    pub flawed-within : (n : ℕ) → r .verdict ≡ NotSound n → n ≤ 512
+    flawed-within n is = omega (arith, flawed-length n is, text-fits)
+
+    text-there : (n : ℕ) → n ≡ length (textOf v h) → take n m ≡ textOf v h
+    unfolding overwritten
+    text-there n is =
+        ap (λ (k : ℕ). take k m) is
+        ∙ ap (λ (t : List ℕ). take (length (textOf v h)) t) (checks .leaves ∙ on _ _ (le-leb _ _ enough))
+        ∙ take-append-seam (textOf v h) (drop (length (textOf v h)) l)
+
+    pub flawed-line : (n : ℕ) → r .verdict ≡ NotSound n → lineAt position (take n m) ≡ verdictLine v position h
+    unfolding verdictLine soundIn
+    flawed-line n is =
+        ap (λ (t : List ℕ). lineAt position t) (text-there n (flawed-length n is))
+        ∙ sym (off _ _ (sym (ap soundIn judged) ∙ ap (λ (x : Verdict). soundIn (answerOf x)) is))
+
+    -- a buffer of 512 bytes is never too short
+    pub never-short : (n : ℕ) → r .verdict ≡ TooShort n → ⊥
+    unfolding refusalIn
+    never-short n is =
+        let seven : _≡_ {A = ℕ} 7 0 = sym (ap (λ (x : Verdict). refusalIn (answerOf x)) is) ∙ ap refusalIn judged in omega arith
