@@ -20,8 +20,8 @@ use Rattle.scan_cdp.specs.declared.Position.{Position}
 use Rattle.scan_cdp.specs.declared.Progress.{Progress}
 use Rattle.scan_cdp.specs.declared.Settings.{Settings}
 use Rattle.scan_cdp.specs.declared.State.{State}
-use Rattle.scan_cdp.specs.declared.turn.Turn.{Turn}
-use Rattle.scan_cdp.specs.declared.turn.Turn.the-variants.{FeeIdsFull, BadOffset, MemorySize, NegativeSkip, Passed, HandedOut}
+use Rattle.scan_cdp.specs.declared.Turn.{Turn}
+use Rattle.scan_cdp.specs.declared.Turn.the-variants.{FeeIdsFull, BadOffset, MemorySize, NegativeSkip, Passed, HandedOut}
 use Rattle.scan_laws.specs.WindowLaws.{examined-header, examined-short, fitting, refused-6, step-ended, step-header}
 use Rattle.chain.specs.Calls.{Held, Window, WindowOf, entryRead, free, held, heldBack, needed, readFrom}
 use Rattle.chain.specs.Chain.{Kept, next}

@@ -21,8 +21,8 @@ use Rattle.scan_cdp.specs.Windows.{outside, shown}
 use Rattle.scan_cdp.specs.declared.LoadMarks.{LoadMarks}
 use Rattle.scan_cdp.specs.declared.Position.{Position}
 use Rattle.scan_cdp.specs.declared.Settings.{Settings}
-use Rattle.scan_cdp.specs.declared.turn.Turn.{Turn}
-use Rattle.scan_cdp.specs.declared.turn.Turn.the-variants.{FeeIdsFull, BadOffset, MemorySize, NegativeSkip, Passed, HandedOut}
+use Rattle.scan_cdp.specs.declared.Turn.{Turn}
+use Rattle.scan_cdp.specs.declared.Turn.the-variants.{FeeIdsFull, BadOffset, MemorySize, NegativeSkip, Passed, HandedOut}
 use Rattle.scan_laws.specs.Runs.{isWant}
 use Rattle.scan_laws.specs.WindowLaws.{step-ended, step-header}
 use Rattle.chain.specs.Calls.{Call, Held, Reply, Served, Window, Windows, along, answerOf, endsChain, examination, examinedBy, examines, free, held, heldBack, heldLoad, keptBy, load, loadAlong, loadedBy, loads, needed, replies, servedBy, toCome}

@@ -25,7 +25,7 @@ use Rattle.scan_cdp.specs.declared.Part.{Part}
 use Rattle.scan_cdp.specs.declared.Progress.{Progress}
 use Rattle.scan_cdp.specs.declared.Settings.{Settings}
 use Rattle.scan_cdp.specs.declared.State.{State}
-use Rattle.scan_cdp.specs.declared.turn.Turn.{Turn}
+use Rattle.scan_cdp.specs.declared.Turn.{Turn}
 use Rattle.input_scanner.specs.Replies.{stepOf, withLinks}
 use Rattle.input_scanner.specs.Stepping.{Stepped, Unchanged, headerStepped, numbersUnusable}
 use Rattle.input_scanner.specs.declared.step.Step.{Step}

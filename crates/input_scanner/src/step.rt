@@ -23,8 +23,7 @@ use scan_cdp::Position;
 use scan_cdp::Progress;
 use scan_cdp::Refusal;
 use scan_cdp::Settings;
-use scan_cdp::turn;
-use scan_cdp::turn::Turn;
+use scan_cdp::Turn;
 use serde_rdh::FromBuf;
 
 // No place, position or window end is above it.
@@ -142,7 +141,7 @@ fn lacking(progress: Progress, end: u64, last: bool) -> Step
         return unchanged(progress, LoadCdp::Want(place, 64));
     }
     Step {
-        answer: turn::refused(Refusal::End),
+        answer: turn_effects::refused(Refusal::End),
         marks: no_marks(),
         progress: Progress {
             place: BytePlace(greater(place.0, end)),
@@ -183,8 +182,8 @@ fn header_step(
     let fee_id = rdh.rdh0.fee_id.0;
     let full = set.stats & stats::fee_ids_full(fee_ids, progress.fee_ids_used, fee_id);
     let turn = turn::turn_of(set, first, full, rdh);
-    if !last & turn::is_cut(set.skip_payload, turn, rdh, left) {
-        let size = 64 + turn::payload_size(rdh.memory_size) as u64;
+    if !last & turn_effects::is_cut(set.skip_payload, turn, rdh, left) {
+        let size = 64 + turn_effects::payload_size(rdh.memory_size) as u64;
         return unchanged(progress, LoadCdp::Want(place, size));
     }
     if !(set.stats & turn::is_counted(first, turn)) {
@@ -230,13 +229,22 @@ fn stepped(
     let load = progress.load;
     let position = progress.position;
     let first = turn::is_first(load);
-    let cut = turn::is_cut(set.skip_payload, turn, rdh, left);
-    let payload = turn::part(start + 64, turn::read_size(set.skip_payload, cut, rdh));
-    let tally = turn::tallied(set, first, turn, progress.counts, rdh);
+    let cut = turn_effects::is_cut(set.skip_payload, turn, rdh, left);
+    let payload = turn_effects::part(
+        start + 64,
+        turn_effects::read_size(set.skip_payload, cut, rdh),
+    );
+    let tally = turn_effects::tallied(set, first, turn, progress.counts, rdh);
     Step {
-        answer: turn::answer(turn, rdh, payload, turn::start_of(load, position), position),
+        answer: turn_effects::answer(
+            turn,
+            rdh,
+            payload,
+            turn_effects::start_of(load, position),
+            position,
+        ),
         marks: Marks {
-            initial: turn::initial_collect_stats(set.stats, first, position, rdh),
+            initial: turn_effects::initial_collect_stats(set.stats, first, position, rdh),
             seen_carry: tally.seen.carry,
             filtered_carry: tally.filtered.carry,
             payload_carry: tally.payload.carry,
@@ -244,10 +252,11 @@ fn stepped(
         },
         progress: Progress {
             place: BytePlace(
-                progress.place.0 + turn::place_moved(set.skip_payload, turn, cut, rdh, left) as u64,
+                progress.place.0
+                    + turn_effects::place_moved(set.skip_payload, turn, cut, rdh, left) as u64,
             ),
-            position: Position(position.0 + turn::position_moved(turn, rdh)),
-            load: turn::load_after(turn, load, position),
+            position: Position(position.0 + turn_effects::position_moved(turn, rdh)),
+            load: turn_effects::load_after(turn, load, position),
             counts: Counts {
                 seen: tally.seen.value,
                 filtered: tally.filtered.value,

@@ -1,6 +1,5 @@
 pub mod Answers
 pub mod Turns
-pub mod TurnLaws
 pub mod Steps
 pub mod Windows
 pub mod Loads

@@ -4,8 +4,8 @@ use mathlib.Core.Bool.{Bool, _||_}
 use Rattle.basis.specs.Pick.{pick}
 use Rattle.rdh.specs.declared.rdh_cru.RdhCru.{RdhCru}
 use Rattle.scan_cdp.specs.Turns.{memorySize, offset, payloadSize}
-use Rattle.scan_cdp.specs.declared.turn.Turn.{Turn}
-use Rattle.scan_cdp.specs.declared.turn.Turn.the-variants.{FeeIdsFull, BadOffset, MemorySize, NegativeSkip, Passed, HandedOut}
+use Rattle.scan_cdp.specs.declared.Turn.{Turn}
+use Rattle.scan_cdp.specs.declared.Turn.the-variants.{FeeIdsFull, BadOffset, MemorySize, NegativeSkip, Passed, HandedOut}
 
 unfoldable pub readSize : (skip cut : Bool) → RdhCru → ℕ
 readSize skip cut h = pick (skip || cut) 0 (payloadSize h)

@@ -28,9 +28,9 @@ use Rattle.scan_cdp.specs.declared.State.{State}
 use Rattle.scan_cdp.specs.declared.Initial.{Initial}
 use Rattle.scan_cdp.specs.declared.Initial.the-variants as Report
 use Rattle.scan_cdp.specs.declared.Marks.{Marks}
-use Rattle.scan_cdp.specs.declared.turn.Tally.{Tally}
-use Rattle.scan_cdp.specs.declared.turn.Turn.{Turn}
-use Rattle.scan_cdp.specs.declared.turn.Turn.the-variants.{FeeIdsFull, BadOffset, MemorySize, NegativeSkip, Passed, HandedOut}
+use Rattle.scan_cdp.specs.declared.Tally.{Tally}
+use Rattle.scan_cdp.specs.declared.Turn.{Turn}
+use Rattle.scan_cdp.specs.declared.Turn.the-variants.{FeeIdsFull, BadOffset, MemorySize, NegativeSkip, Passed, HandedOut}
 
 -- "Each turn adds an entry: passed, handed out [..] or refused [..], with its marks and what state and list then hold."
 pub record Entry (P : Type 0) : Type 0 where

@@ -6,8 +6,8 @@ use Rattle.basis.specs.Pick.{pick}
 use Rattle.filter.specs.Filter.{matches, targetOf}
 use Rattle.rdh.specs.declared.rdh_cru.RdhCru.{RdhCru}
 use Rattle.scan_cdp.specs.declared.Settings.{Settings}
-use Rattle.scan_cdp.specs.declared.turn.Turn.{Turn}
-use Rattle.scan_cdp.specs.declared.turn.Turn.the-variants.{FeeIdsFull, BadOffset, MemorySize, NegativeSkip, Passed, HandedOut}
+use Rattle.scan_cdp.specs.declared.Turn.{Turn}
+use Rattle.scan_cdp.specs.declared.Turn.the-variants.{FeeIdsFull, BadOffset, MemorySize, NegativeSkip, Passed, HandedOut}
 
 -- The header's fields by document 01's names.
 abbrev pub offset : RdhCru → ℕ

@@ -1,10 +1,10 @@
-// What a scan is asked for, keeps and answers, and what becomes of one header: the layer below the reading of a window.
-pub mod turn;
+// What a scan is asked for, keeps and answers: the layer below the reading of a window.
 
 ghost use mathlib.Core.Path.{_≡_};
 ghost use Rattle.scan_cdp.specs.Steps.{newState};
 use filter::FilterOpt;
 use rdh::rdh_cru::RdhCru;
+use stats::Count;
 
 // A byte place in the recording, which the reading goes by.
 pub struct BytePlace(pub u64);
@@ -128,4 +128,21 @@ pub enum LoadCdp {
 pub enum Examined {
     Passed,
     Answered(LoadCdp),
+}
+
+// A header is refused with 4, 2, 3 or 5, is passed, or is handed out.
+pub enum Turn {
+    FeeIdsFull,
+    BadOffset,
+    MemorySize,
+    NegativeSkip,
+    Passed,
+    HandedOut,
+}
+
+// The three counts after a header, each with whether it was full and started again.
+pub struct Tally {
+    pub seen: Count,
+    pub filtered: Count,
+    pub payload: Count,
 }

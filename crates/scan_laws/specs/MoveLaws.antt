@@ -8,8 +8,8 @@ use Rattle.rdh.specs.declared.rdh_cru.RdhCru.{RdhCru}
 use Rattle.scan_cdp.specs.Moves.{movedBy, positionBy}
 use Rattle.scan_cdp.specs.Steps.{cut, placeAfter, positionAfter}
 use Rattle.scan_cdp.specs.Turns.{memorySize, offset}
-use Rattle.scan_cdp.specs.declared.turn.Turn.{Turn}
-use Rattle.scan_cdp.specs.declared.turn.Turn.the-variants.{FeeIdsFull, BadOffset, MemorySize, NegativeSkip, Passed, HandedOut}
+use Rattle.scan_cdp.specs.declared.Turn.{Turn}
+use Rattle.scan_cdp.specs.declared.Turn.the-variants.{FeeIdsFull, BadOffset, MemorySize, NegativeSkip, Passed, HandedOut}
 
 added-in : (place : ℕ) (skip short : Bool) (a b c : ℕ)
     → place + pick skip a (pick short b c) ≡ pick skip (place + a) (pick short (place + b) (place + c))

@@ -12,7 +12,7 @@ use Rattle.scan_cdp.specs.Steps.{cut, isFirst, lists, turn, unchanged}
 use Rattle.scan_cdp.specs.Turns.{counted, feeId, turnOf}
 use Rattle.scan_cdp.specs.declared.Progress.{Progress}
 use Rattle.scan_cdp.specs.declared.Settings.{Settings}
-use Rattle.scan_cdp.specs.declared.turn.Turn.{Turn}
+use Rattle.scan_cdp.specs.declared.Turn.{Turn}
 use Rattle.input_scanner.specs.Replies.{withLinks}
 use Rattle.input_scanner.specs.Stepping.{Stepped}
 use Rattle.input_scanner.specs.SteppingLaws.{header-entered, header-wanted, listed, not-listed, nothing-changed}

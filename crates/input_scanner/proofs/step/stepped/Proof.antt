@@ -8,7 +8,7 @@ use Rattle.scan_laws.specs.MoveLaws.{place-moved, position-moved}
 use Rattle.scan_cdp.specs.Steps.{answerIn, initialOf, marksOf, progressAfter, startOf, tallied}
 use Rattle.scan_cdp.specs.Windows.{partAt}
 use Rattle.scan_cdp.specs.declared.Part.{Part}
-use Rattle.scan_cdp.specs.declared.turn.Tally.{Tally}
+use Rattle.scan_cdp.specs.declared.Tally.{Tally}
 use borrow.Author.Needs.{needs}
 use Rattle.input_scanner.proofs.step.stepped.Statement.{statement}
 use Rattle.input_scanner.proofs.step.stepped.Tie as tie
