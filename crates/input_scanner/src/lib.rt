@@ -85,7 +85,7 @@ pub fn load_cdp(
         return Load {
             answer: LoadCdp::Refused(Refusal::Unusable),
             marks,
-            state,
+            state: State { progress, links },
         };
     }
     let answer = loop {

@@ -7,7 +7,7 @@ ghost use lib.ListN.{length, take};
 ghost use Rattle.basis.specs.Refusals.{refuses};
 ghost use Rattle.stats.specs.Listed.{twice};
 ghost use Rattle.scan_cdp.specs.Answers.{loadAnswer};
-ghost use Rattle.scan_cdp.specs.Steps.{isFirst, limit, noMarks, unchanged};
+ghost use Rattle.scan_cdp.specs.Steps.{isFirst, limit, noMarks, placesListed, unchanged, usedListed};
 ghost use Rattle.scan_cdp.specs.Windows.{examined, outside};
 ghost use Rattle.input_scanner.specs.Replies.{stepOf, withLinks};
 ghost use Rattle.input_scanner.specs.Stepping.{HeaderHere, Lacking, Stepped, Unchanged, headerStepped, numbersUnusable};
@@ -186,20 +186,9 @@ fn header_step(
         let size = 64 + turn_effects::payload_size(rdh.memory_size) as u64;
         return unchanged(progress, LoadCdp::Want(place, size));
     }
-    if !(set.stats & turn::is_counted(first, turn)) {
-        return stepped(
-            set,
-            progress,
-            turn,
-            rdh,
-            start,
-            left,
-            progress.links_used,
-            progress.fee_ids_used,
-        );
-    }
-    let links_used = stats::try_add_link(links, progress.links_used, rdh.link_id);
-    let fee_ids_used = stats::try_add_fee_id(fee_ids, progress.fee_ids_used, fee_id);
+    let due = set.stats & turn::is_counted(first, turn);
+    let links_used = list_link(due, links, progress.links_used, rdh.link_id);
+    let fee_ids_used = list_fee_id(due, fee_ids, progress.fee_ids_used, fee_id);
     stepped(
         set,
         progress,
@@ -210,6 +199,28 @@ fn header_step(
         links_used,
         fee_ids_used,
     )
+}
+
+// Lists the link of a header that step 2 counted. Answers the used number after it.
+fn list_link(due: bool, links: &mut [u8], used: usize, link: u8) -> usize
+    ensures used { λ r. ⌜ r ≡ usedListed due link used (now (links .entry)) ⌝ }
+    ensures places { λ _. ⌜ now (links .exit) ≡ placesListed due link used (now (links .entry)) ⌝ }
+{
+    if !due {
+        return used;
+    }
+    stats::try_add_link(links, used, link)
+}
+
+// Lists the FEE id of a header that step 2 counted. Answers the used number after it.
+fn list_fee_id(due: bool, fee_ids: &mut [u16], used: usize, fee_id: u16) -> usize
+    ensures used { λ r. ⌜ r ≡ usedListed due «fee_id» used (now («fee_ids» .entry)) ⌝ }
+    ensures places { λ _. ⌜ now («fee_ids» .exit) ≡ placesListed due «fee_id» used (now («fee_ids» .entry)) ⌝ }
+{
+    if !due {
+        return used;
+    }
+    stats::try_add_fee_id(fee_ids, used, fee_id)
 }
 
 // The reply for a header that has an outcome, with the used numbers of the lists after it.

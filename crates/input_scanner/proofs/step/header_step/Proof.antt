@@ -1,21 +1,20 @@
--- The outcome first; then a want, or the lists as they are, or the lists with what is new.
+-- The outcome first; then a want, or the lists with what is new.
 use Prim.Native.Nat.{ℕ, _+_}
 use mathlib.Core.Bool.{Bool, true, false, not, _&&_}
 use mathlib.Core.Path.{_≡_, ap, sym, subst, _∙_}
 use mathlib.Core.List.{List}
-use borrow.Author.Tests.{not-false, not-true}
 use Rattle.rdh.specs.declared.rdh_cru.RdhCru.{RdhCru}
 use Rattle.basis.specs.Refusals.{gives}
 use Rattle.stats.specs.Listed.{full}
 use Rattle.scan_cdp.specs.Answers.{wants}
-use Rattle.scan_cdp.specs.Steps.{cut, isFirst, lists, turn, unchanged}
+use Rattle.scan_cdp.specs.Steps.{cut, isFirst, lists, placesListed, turn, unchanged, usedListed}
 use Rattle.scan_cdp.specs.Turns.{counted, feeId, turnOf}
 use Rattle.scan_cdp.specs.declared.Progress.{Progress}
 use Rattle.scan_cdp.specs.declared.Settings.{Settings}
 use Rattle.scan_cdp.specs.declared.Turn.{Turn}
 use Rattle.input_scanner.specs.Replies.{withLinks}
 use Rattle.input_scanner.specs.Stepping.{Stepped}
-use Rattle.input_scanner.specs.SteppingLaws.{header-entered, header-wanted, listed, not-listed, nothing-changed}
+use Rattle.input_scanner.specs.SteppingLaws.{header-entered, header-wanted, nothing-changed}
 use borrow.Author.Needs.{needs}
 use Rattle.input_scanner.proofs.step.header_step.Statement.{statement}
 use Rattle.input_scanner.proofs.step.header_step.Tie as tie
@@ -81,64 +80,41 @@ returns c =
 is-counted-requires : tie.Need-is-counted-requires
 is-counted-requires c κs = search needs
 
+list-link-requires : tie.Need-list-link-requires
+list-link-requires c κs = search needs
+
+list-fee-id-requires : tie.Need-list-fee-id-requires
+list-fee-id-requires c κs = search needs
+
 stepped-requires : tie.Need-stepped-requires
 stepped-requires c κs = search needs
 
 same-length-2 : tie.Need-same-length-2
 same-length-2 c = search needs
 
-returns-2 : tie.Need-returns-2
-returns-2 c =
-    let args = c .before .before .before .before .before .before .before .before .before .before .before .before .before .before .args in
-    let set = args .set in
-    let p = args .progress in
-    let links = args .links .now in
-    let fee-ids = args .fee-ids .now in
-    let h = args .rdh in
-    let first = c .before .before .before .before .before .before .before .before .before .before .is-first .ensures in
-    let t = outcome-is set p fee-ids h first (c .before .before .before .before .before .before .before .before .fee-ids-full .ensures) (c .before .before .before .before .before .before .turn-of .ensures) in
-    let wanted = wanted-is set h (args .left) (args .last) t (c .before .before .before .before .before .is-cut .ensures) in
-    let uncounted = sym (counted-is set p first t (c .before .before .before .is-counted .ensures)) ∙ not-true _ (c .before .if2 .taken) in
-    let (used, places) = not-listed _ (h .«link_id») (p .«links_used») links uncounted in
-    let (fee-used, fee-places) = not-listed _ (feeId h) (p .«fee_ids_used») fee-ids uncounted in
-    header-entered set p links fee-ids h (args .start) (args .left) (args .last) (sym wanted ∙ c .before .before .before .before .if1 .left) _ _ links fee-ids
-    (subst (λ (u : Turn). Stepped set p u h (args .start) (args .left) (p .«links_used») (p .«fee_ids_used») (c .stepped .result)) t (c .stepped .ensures))
-    used places fee-used fee-places
-
-try-add-link-requires : tie.Need-try-add-link-requires
-try-add-link-requires c κs = search needs
-
-try-add-fee-id-requires : tie.Need-try-add-fee-id-requires
-try-add-fee-id-requires c κs = search needs
-
-stepped-requires-2 : tie.Need-stepped-requires-2
-stepped-requires-2 c κs = search needs
-
 same-length-3 : tie.Need-same-length-3
 same-length-3 c = search needs
 
-same-length-4 : tie.Need-same-length-4
-same-length-4 c = search needs
-
-returns-3 : tie.Need-returns-3
-returns-3 c =
-    let args = c .before .before .before .before .before .before .before .before .before .before .before .before .before .before .before .before .before .before .before .before .before .before .args in
+returns-2 : tie.Need-returns-2
+returns-2 c =
+    let args = c .before .before .before .before .before .before .before .before .before .before .before .before .before .before .before .before .before .before .before .before .before .args in
     let set = args .set in
     let p = args .progress in
     let links = args .links .now in
     let fee-ids = args .fee-ids .now in
     let h = args .rdh in
-    let first = c .before .before .before .before .before .before .before .before .before .before .before .before .before .before .before .before .before .before .is-first .ensures in
-    let t = outcome-is set p fee-ids h first (c .before .before .before .before .before .before .before .before .before .before .before .before .before .before .before .before .fee-ids-full .ensures) (c .before .before .before .before .before .before .before .before .before .before .before .before .before .before .turn-of .ensures) in
-    let wanted = wanted-is set h (args .left) (args .last) t (c .before .before .before .before .before .before .before .before .before .before .before .before .before .is-cut .ensures) in
-    let is-counted = sym (counted-is set p first t (c .before .before .before .before .before .before .before .before .before .before .before .is-counted .ensures)) ∙ not-false _ (c .before .before .before .before .before .before .before .before .before .if2 .left) in
-    let (used, places) = listed _ (h .«link_id») (p .«links_used») links is-counted in
-    let (fee-used, fee-places) = listed _ (feeId h) (p .«fee_ids_used») fee-ids is-counted in
-    let link = c .before .before .before .before .before .before .before .try-add-link .ensures in
-    let fee = c .before .before .before .try-add-fee-id .ensures in
-    header-entered set p links fee-ids h (args .start) (args .left) (args .last) (sym wanted ∙ c .before .before .before .before .before .before .before .before .before .before .before .before .if1 .left) _ _ _ _
-    (subst (λ (u : Turn). Stepped set p u h (args .start) (args .left) (c .before .before .before .before .before .before .before .try-add-link .result) (c .before .before .before .try-add-fee-id .result) (c .stepped2 .result)) t (c .stepped2 .ensures))
-    (link .0 ∙ used) (link .1 ∙ places) (fee .0 ∙ fee-used) (fee .1 ∙ fee-places)
+    let first = c .before .before .before .before .before .before .before .before .before .before .before .before .before .before .before .before .before .is-first .ensures in
+    let t = outcome-is set p fee-ids h first (c .before .before .before .before .before .before .before .before .before .before .before .before .before .before .before .fee-ids-full .ensures) (c .before .before .before .before .before .before .before .before .before .before .before .before .before .turn-of .ensures) in
+    let wanted = wanted-is set h (args .left) (args .last) t (c .before .before .before .before .before .before .before .before .before .before .before .before .is-cut .ensures) in
+    let due = counted-is set p first t (c .before .before .before .before .before .before .before .before .before .before .is-counted .ensures) in
+    let link = c .before .before .before .before .before .before .before .list-link in
+    let fee = c .before .before .before .list-fee-id in
+    header-entered set p links fee-ids h (args .start) (args .left) (args .last) (sym wanted ∙ c .before .before .before .before .before .before .before .before .before .before .before .if1 .left) _ _ _ _
+    (subst (λ (u : Turn). Stepped set p u h (args .start) (args .left) (link .result) (fee .result) (c .stepped .result)) t (c .stepped .ensures))
+    (link .ensures .0 ∙ (λ i. usedListed (due i) (h .«link_id») (p .«links_used») links))
+    (link .ensures .1 ∙ (λ i. placesListed (due i) (h .«link_id») (p .«links_used») links))
+    (fee .ensures .0 ∙ (λ i. usedListed (due i) (feeId h) (p .«fee_ids_used») fee-ids))
+    (fee .ensures .1 ∙ (λ i. placesListed (due i) (feeId h) (p .«fee_ids_used») fee-ids))
 
 pub header-step-spec : {M : Type 1} → statement M
 header-step-spec =
@@ -155,12 +131,9 @@ header-step-spec =
     same-length
     returns
     is-counted-requires
+    list-link-requires
+    list-fee-id-requires
     stepped-requires
     same-length-2
-    returns-2
-    try-add-link-requires
-    try-add-fee-id-requires
-    stepped-requires-2
     same-length-3
-    same-length-4
-    returns-3)
+    returns-2)
