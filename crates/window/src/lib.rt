@@ -6,6 +6,9 @@ ghost use lib.ListN.{length};
 ghost use Rattle.window.specs.Held.{Fills, Passes, Shows, heldFrom, nothing, slid};
 use scan_cdp::BytePlace;
 
+// No seek goes further.
+const FARTHEST: u64 = 1_152_921_504_606_846_976;
+
 // What a buffer holds: so many bytes, from a byte place of the input on, and whether the input ends with them.
 pub struct Held {
     pub first: BytePlace,
@@ -78,7 +81,7 @@ fn distance(first: BytePlace, place: BytePlace, length: usize) -> usize
     length
 }
 
-// Reads on, and drops what it reads, up to `place`. What is held is at the place already, or nothing is held.
+// Goes on to `place`: skips what a file has before it, and reads and drops what a pipe has. What is held is at the place already, or nothing is held.
 fn pass(fd: i32, buffer: &mut [u8], held: Held, place: BytePlace) -> Refilled
     requires { ⌜ (held .length ≤ length (now buffer)) × (held .first .0 < place .0 → held .length ≡ 0) ⌝ }
     ensures { λ r. ⌜ Passes held (now (buffer .entry)) (place .0) (now (buffer .exit)) r ⌝ }
@@ -86,6 +89,13 @@ fn pass(fd: i32, buffer: &mut [u8], held: Held, place: BytePlace) -> Refilled
     let mut first = held.first.0;
     if place.0 <= first {
         return Refilled::Window(held);
+    }
+    if is_skipped(fd, place.0 - first) {
+        return Refilled::Window(Held {
+            first: place,
+            length: 0,
+            last: false,
+        });
     }
     while first < place.0 {
         let start = 0;
@@ -109,6 +119,11 @@ fn pass(fd: i32, buffer: &mut [u8], held: Held, place: BytePlace) -> Refilled
         length: 0,
         last: false,
     })
+}
+
+// Skips so many bytes of the input, if it is one that can be read from any place. A pipe is not, and answers that with a number below 0.
+fn is_skipped(fd: i32, distance: u64) -> bool {
+    (distance <= FARTHEST) && libc::lseek(fd, distance as i64, libc::SEEK_CUR) >= 0
 }
 
 // Reads behind what is held, until there are `size` bytes, the buffer is full or the input ends.

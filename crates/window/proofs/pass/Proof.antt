@@ -19,6 +19,18 @@ returns : tie.Need-returns Inv-loop μ-loop
 returns c =
     (record { more = omega arith; within = c .before .before .before .pre .0; same = refl }, λ _. refl, λ _. omega arith)
 
+sub-is-skipped : tie.Need-sub-is-skipped Inv-loop μ-loop
+sub-is-skipped c = omega arith
+
+is-skipped-requires : tie.Need-is-skipped-requires Inv-loop μ-loop
+is-skipped-requires c κs = search needs
+
+returns-2 : tie.Need-returns-2 Inv-loop μ-loop
+returns-2 c =
+    let start = c .before .before .before .before .before .before in
+    let nothing : start .args .held .length ≡ 0 = start .pre .1 (omega arith) in
+    (nothing-kept nothing, λ reached. omega arith, λ _. omega arith)
+
 loop-holds : tie.Need-loop-holds Inv-loop μ-loop
 loop-holds c = (refl, omega arith, omega arith)
 
@@ -45,8 +57,8 @@ same-length c =
     length-read (turn .loop .buffer) (reading .read .last .1 .0) 0 (measured .distance .result - 0) (reading .read .kept .1 .0)
     ∙ turn .loop .inv .0
 
-returns-2 : tie.Need-returns-2 Inv-loop μ-loop
-returns-2 c = tt
+returns-3 : tie.Need-returns-3 Inv-loop μ-loop
+returns-3 c = tt
 
 sub-count : tie.Need-sub-count Inv-loop μ-loop
 sub-count c = omega arith
@@ -68,9 +80,9 @@ same-length-2 c =
     length-read (turn .loop .buffer) (reading .read .last .1 .0) 0 (measured .distance .result - 0) (reading .read .kept .1 .0)
     ∙ turn .loop .inv .0
 
-returns-3 : tie.Need-returns-3 Inv-loop μ-loop
-returns-3 c =
-    let start = c .before .before .before .before .before .before .before .before .before .before .before .before .before .before .before .before in
+returns-4 : tie.Need-returns-4 Inv-loop μ-loop
+returns-4 c =
+    let start = c .before .before .before .before .before .before .before .before .before .before .before .before .before .before .before .before .before .before .before in
     let nothing : start .args .held .length ≡ 0 = start .pre .1 (omega arith) in (
       nothing-kept nothing,
       λ reached. omega arith,
@@ -97,9 +109,9 @@ loop-again c =
 same-length-3 : tie.Need-same-length-3 Inv-loop μ-loop
 same-length-3 c = c .before .before .loop .inv .0
 
-returns-4 : tie.Need-returns-4 Inv-loop μ-loop
-returns-4 c =
-    let start = c .before .before .before .before .before .before in
+returns-5 : tie.Need-returns-5 Inv-loop μ-loop
+returns-5 c =
+    let start = c .before .before .before .before .before .before .before .before .before in
     let nothing : start .args .held .length ≡ 0 = start .pre .1 (omega arith) in
     (nothing-kept nothing, λ reached. omega arith, λ _. omega arith)
 
@@ -110,6 +122,9 @@ pass-spec =
     Inv-loop
     μ-loop
     returns
+    sub-is-skipped
+    is-skipped-requires
+    returns-2
     loop-holds
     distance-requires
     sub-read
@@ -117,15 +132,15 @@ pass-spec =
     part-read-end
     read-requires
     same-length
-    returns-2
+    returns-3
     sub-count
     part-count-start
     part-count-end
     count-requires
     same-length-2
-    returns-3
+    returns-4
     add-first
     loop-less
     loop-again
     same-length-3
-    returns-4)
+    returns-5)
