@@ -1,18 +1,8 @@
-// The verdict: whether a header is sound, in the Rust's words. A module for each word of the header, as the Rust has a validator for
-// each.
+// The verdict: whether a header is sound, in the Rust's words.
 ghost use mathlib.Core.Path.{_≡_};
 ghost use Rattle.sanity.specs.Tests.{failureText};
 ghost use Rattle.validators.specs.Verdict.{Checks, Needed, expectedId, settledId};
-ghost use Rattle.text.specs.Put.{Put};
 use rdh::rdh_cru::RdhCru;
-
-mod cru;
-mod fee_id;
-mod piece;
-mod rdh0;
-mod rdh1;
-mod rdh2;
-mod rdh3;
 
 // The header ID that headers are held to: the configured version; or none yet; or that of the first header checked.
 pub enum HeaderId {
@@ -72,7 +62,7 @@ impl RdhCruSanityValidator {
             };
         }
         SanityCheck {
-            verdict: Verdict::NotSound(put_text(text, 0, expected, its, rdh)),
+            verdict: Verdict::NotSound(sanity_texts::put_text(text, 0, expected, its, rdh)),
             validator: settled, // the ID is settled though the header fails
         }
     }
@@ -108,17 +98,5 @@ fn needed(expected: u8, its: bool, rdh: RdhCru, room: usize) -> usize
         return 0;
     }
     let mut none = [0u8; 0];
-    put_text(&mut none, 0, expected, its, rdh)
-}
-
-// The text of a header that is not sound.
-fn put_text(out: &mut [u8], at: usize, expected: u8, its: bool, rdh: RdhCru) -> usize
-    ensures { λ r. ⌜ Put (now (out .entry)) at (failureText expected its rdh) (now (out .exit)) r ⌝ }
-{
-    let at = text::put_bytes(out, at, b"[E10] RDH sanity check failed: ");
-    let at = rdh0::put(out, at, expected, its, rdh.rdh0);
-    let at = rdh1::put(out, at, rdh.rdh1);
-    let at = rdh2::put(out, at, rdh.rdh2);
-    let at = rdh3::put(out, at, rdh.rdh3);
-    cru::put(out, at, rdh)
+    sanity_texts::put_text(&mut none, 0, expected, its, rdh)
 }

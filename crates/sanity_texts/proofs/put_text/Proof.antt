@@ -1,0 +1,55 @@
+-- The title and the five parts, one behind the other.
+use Rattle.text.specs.PutLaws.{and-then}
+use Rattle.sanity.specs.Tests.{failureText}
+use borrow.Author.Needs.{needs}
+use Rattle.sanity_texts.proofs.put_text.Statement.{statement}
+use Rattle.sanity_texts.proofs.put_text.Tie as tie
+
+slice-aggregate-put-bytes : tie.Need-slice-aggregate-put-bytes
+slice-aggregate-put-bytes c = search needs
+
+put-bytes-requires : tie.Need-put-bytes-requires
+put-bytes-requires c κs = search needs
+
+put-requires : tie.Need-put-requires
+put-requires c κs = search needs
+
+put-requires-2 : tie.Need-put-requires-2
+put-requires-2 c κs = search needs
+
+put-requires-3 : tie.Need-put-requires-3
+put-requires-3 c κs = search needs
+
+put-requires-4 : tie.Need-put-requires-4
+put-requires-4 c κs = search needs
+
+put-requires-5 : tie.Need-put-requires-5
+put-requires-5 c κs = search needs
+
+same-length : tie.Need-same-length
+same-length c = search needs
+
+returns : tie.Need-returns
+unfolding failureText
+returns c =
+    let cru = c .before .before in
+    let rdh3 = cru .before .before .before .before in
+    let rdh2 = rdh3 .before .before .before .before in
+    let rdh1 = rdh2 .before .before .before .before in
+    let rdh0 = rdh1 .before .before .before .before in
+    let title = rdh0 .before .before .before .before in
+    and-then (and-then (and-then (and-then (and-then (title .put-bytes .ensures) (rdh0 .put .ensures)) (rdh1 .put2 .ensures)) (rdh2 .put3 .ensures)) (rdh3 .put4 .ensures)) (cru .put5 .ensures)
+
+pub put-text-spec : {M : Type 1} → statement M
+put-text-spec =
+    tie.close
+    (tie.spec
+    slice-aggregate-put-bytes
+    put-bytes-requires
+    put-requires
+    put-requires-2
+    put-requires-3
+    put-requires-4
+    put-requires-5
+    same-length
+    returns)

@@ -1,0 +1,113 @@
+-- The heading and the six pieces, one behind the other, where any test fails.
+use Rattle.text.specs.PutLaws.{and-then}
+use Rattle.text.specs.PutLaws.{same-length as kept-length}
+use Rattle.sanity.specs.Tests.{pieces, rdh0Tests}
+use Rattle.sanity_texts.proofs.Pieces.{a-section, last-piece, no-section}
+use native.Mathlib.Omega.{arith}
+use borrow.Author.Needs.{needs}
+use Rattle.sanity_texts.proofs.rdh0.put.Statement.{statement}
+use Rattle.sanity_texts.proofs.rdh0.put.Tie as tie
+
+fails-requires : tie.Need-fails-requires
+fails-requires c κs = search needs
+
+returns : tie.Need-returns
+returns c =
+    let args = c .before .before .before .args in
+    no-section "RDH0: " (rdh0Tests (args .expected) (args .its) (args .rdh0)) _ _ (c .before .fails .ensures) (c .if1 .taken) (omega arith) (omega arith)
+
+slice-aggregate-put-bytes : tie.Need-slice-aggregate-put-bytes
+slice-aggregate-put-bytes c = search needs
+
+put-bytes-requires : tie.Need-put-bytes-requires
+put-bytes-requires c κs = search needs
+
+put-header-id-requires : tie.Need-put-header-id-requires
+put-header-id-requires c κs = search needs
+
+slice-aggregate-put-hex : tie.Need-slice-aggregate-put-hex
+slice-aggregate-put-hex c = search needs
+
+cast-put-hex : tie.Need-cast-put-hex
+cast-put-hex c = search needs
+
+put-hex-requires : tie.Need-put-hex-requires
+put-hex-requires c κs = search needs
+
+put-fee-id-requires : tie.Need-put-fee-id-requires
+put-fee-id-requires c κs = search needs
+
+slice-aggregate-put-hex-2 : tie.Need-slice-aggregate-put-hex-2
+slice-aggregate-put-hex-2 c = search needs
+
+cast-put-hex-2 : tie.Need-cast-put-hex-2
+cast-put-hex-2 c = search needs
+
+put-hex-requires-2 : tie.Need-put-hex-requires-2
+put-hex-requires-2 c κs = search needs
+
+slice-aggregate-put-hex-3 : tie.Need-slice-aggregate-put-hex-3
+slice-aggregate-put-hex-3 c = search needs
+
+cast-put-hex-3 : tie.Need-cast-put-hex-3
+cast-put-hex-3 c = search needs
+
+put-hex-requires-3 : tie.Need-put-hex-requires-3
+put-hex-requires-3 c κs = search needs
+
+slice-aggregate-put-hex-4 : tie.Need-slice-aggregate-put-hex-4
+slice-aggregate-put-hex-4 c = search needs
+
+cast-put-hex-4 : tie.Need-cast-put-hex-4
+cast-put-hex-4 c = search needs
+
+put-hex-requires-4 : tie.Need-put-hex-requires-4
+put-hex-requires-4 c κs = search needs
+
+returns-2 : tie.Need-returns-2
+unfolding pieces rdh0Tests
+returns-2 c =
+    let reserved = c .before .before in
+    let system = reserved .before .before .before .before .before .before .before in
+    let priority = system .before .before .before .before .before .before .before in
+    let fee-id = priority .before .before .before .before .before .before .before in
+    let header-size = fee-id .before .before .before .before in
+    let header-id = header-size .before .before .before .before .before .before .before in
+    let heading = header-id .before .before .before .before in
+    let test = heading .before .before .before in
+    let args = test .before .before .before .args in
+    a-section "RDH0: " (rdh0Tests (args .expected) (args .its) (args .rdh0)) (test .before .fails .ensures) (test .if1 .left) (heading .put-bytes .ensures)
+    (and-then (header-id .put-header-id .ensures)
+    (and-then (header-size .put-hex .ensures)
+    (and-then (fee-id .put-fee-id .ensures)
+    (and-then (priority .put-hex2 .ensures)
+    (and-then (system .put-hex3 .ensures)
+    (last-piece (reserved .put-hex4 .ensures)))))))
+
+same-length : tie.Need-same-length
+same-length c = kept-length (returns-2 c)
+
+pub put-spec : {M : Type 1} → statement M
+put-spec =
+    tie.close
+    (tie.spec
+    fails-requires
+    returns
+    slice-aggregate-put-bytes
+    put-bytes-requires
+    put-header-id-requires
+    slice-aggregate-put-hex
+    cast-put-hex
+    put-hex-requires
+    put-fee-id-requires
+    slice-aggregate-put-hex-2
+    cast-put-hex-2
+    put-hex-requires-2
+    slice-aggregate-put-hex-3
+    cast-put-hex-3
+    put-hex-requires-3
+    slice-aggregate-put-hex-4
+    cast-put-hex-4
+    put-hex-requires-4
+    same-length
+    returns-2)
