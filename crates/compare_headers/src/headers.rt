@@ -8,19 +8,10 @@ use rdh::rdh0::Rdh0;
 use serde_rdh::FromBuf;
 use serde_rdh::ToByteSlice;
 
-pub fn takes(line: &[u8]) -> bool {
+pub(crate) fn takes(line: &[u8]) -> bool {
     words::fits(line, b"header x 8?")
         || words::fits(line, b"equal x x")
         || words::fits(line, b"encode x 8")
-}
-
-// The reply to a line that is such a case; any other has none.
-pub fn answer(line: &[u8], out: &mut [u8], at: usize) -> usize {
-    if !takes(line) {
-        return at;
-    }
-    let at = case(line, out, at);
-    reply::end(out, at)
 }
 
 // The header in the bytes of a word, of which the first 128 are lent.
@@ -31,7 +22,7 @@ pub(crate) fn decoded(word: &[u8]) -> FromBuf {
     serde_rdh::from_buf(&buffer[start..end])
 }
 
-fn case(line: &[u8], out: &mut [u8], at: usize) -> usize {
+pub(crate) fn answer(line: &[u8], out: &mut [u8], at: usize) -> usize {
     match decoded(words::word(line, 1)) {
         FromBuf::TooShort => reply::line(out, at, b"refused 9"),
         FromBuf::Rdh(rdh) => of_header(line, rdh, out, at),
@@ -76,7 +67,7 @@ fn encode(line: &[u8], rdh: RdhCru, out: &mut [u8], at: usize) -> usize {
 }
 
 // A line with what a header is encoded to.
-pub fn bytes(label: &[u8], rdh: RdhCru, out: &mut [u8], at: usize) -> usize {
+fn bytes(label: &[u8], rdh: RdhCru, out: &mut [u8], at: usize) -> usize {
     let mut bytes = [0u8; 64];
     serde_rdh::to_byte_slice(rdh, &mut bytes);
     reply::line_with_bytes(out, at, label, &bytes)

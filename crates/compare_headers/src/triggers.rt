@@ -2,9 +2,10 @@
 use crate::texts;
 use case_lines::reply;
 use case_lines::words;
+use text::Written;
 use trigger_stats::TriggerStats;
 
-pub fn takes(line: &[u8]) -> bool {
+pub(crate) fn takes(line: &[u8]) -> bool {
     words::fits(line, b"triggers")
         || words::fits(line, b"first 4*")
         || words::fits(line, b"second 4*")
@@ -12,12 +13,12 @@ pub fn takes(line: &[u8]) -> bool {
         || words::fits(line, b"compare 8?")
 }
 
-// Statistics after a line: none counted, or those of the name with the line's words counted.
-pub fn set_up(line: &[u8], name: &[u8], stats: TriggerStats) -> TriggerStats {
-    if words::fits(line, b"triggers") {
+// The statistics of a name after a line that `takes` takes.
+pub(crate) fn set_up(line: &[u8], name: &[u8], stats: TriggerStats) -> TriggerStats {
+    if words::is_case(line, b"triggers") {
         return TriggerStats::new();
     }
-    if takes(line) && words::is_case(line, name) {
+    if words::is_case(line, name) {
         return collected(line, stats);
     }
     stats
@@ -37,38 +38,34 @@ fn collected(line: &[u8], stats: TriggerStats) -> TriggerStats {
     stats
 }
 
-pub fn answer(
+// The list of the first statistics, or their comparison with the second; the other lines have no answer.
+pub(crate) fn answer(
     line: &[u8],
     first: TriggerStats,
     second: TriggerStats,
     out: &mut [u8],
     at: usize,
 ) -> usize {
-    if words::fits(line, b"list 8?") || words::fits(line, b"compare 8?") {
-        let at = text(line, first, second, out, at);
-        return reply::end(out, at);
+    if !is_asked(line) {
+        return at;
     }
-    at
-}
-
-// The list of the first statistics, or their comparison with the second.
-fn text(
-    line: &[u8],
-    first: TriggerStats,
-    second: TriggerStats,
-    out: &mut [u8],
-    at: usize,
-) -> usize {
     let mut room = [texts::FILL; texts::ROOM];
     let start = 0;
     let end = texts::room(line, 1);
     let buffer = &mut room[start..end];
-    if words::is_case(line, b"list") {
-        let answer = trigger_texts::display(first, buffer);
-        let at = texts::written(out, at, b"", answer, buffer, b"");
-        return texts::lent(out, at, line, 1, buffer);
-    }
-    let answer = trigger_texts::validate_other(first, second, buffer);
+    let answer = text(line, first, second, buffer);
     let at = texts::written(out, at, b"", answer, buffer, b"");
-    texts::lent(out, at, line, 1, buffer)
+    let at = texts::lent(out, at, line, 1, buffer);
+    reply::end(out, at)
+}
+
+fn is_asked(line: &[u8]) -> bool {
+    words::is_case(line, b"list") || words::is_case(line, b"compare")
+}
+
+fn text(line: &[u8], first: TriggerStats, second: TriggerStats, buffer: &mut [u8]) -> Written {
+    if words::is_case(line, b"list") {
+        return trigger_texts::display(first, buffer);
+    }
+    trigger_texts::validate_other(first, second, buffer)
 }

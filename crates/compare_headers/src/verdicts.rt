@@ -11,20 +11,22 @@ use validators::HeaderId;
 use validators::RdhCruSanityValidator;
 use validators::Verdict;
 
-pub fn takes(line: &[u8]) -> bool {
+pub(crate) fn takes(line: &[u8]) -> bool {
     words::fits(line, b"validator 1- f 1?") || words::fits(line, b"verdict x 8?")
 }
 
 // The validator for the next line, and how many bytes of replies wait.
-pub struct Checked {
+pub(crate) struct Checked {
     pub at: usize,
     pub validator: RdhCruSanityValidator,
 }
 
-pub fn answer(line: &[u8], validator: RdhCruSanityValidator, out: &mut [u8], at: usize) -> Checked {
-    if !takes(line) {
-        return Checked { at, validator };
-    }
+pub(crate) fn answer(
+    line: &[u8],
+    validator: RdhCruSanityValidator,
+    out: &mut [u8],
+    at: usize,
+) -> Checked {
     if words::is_case(line, b"validator") {
         return Checked {
             at,
