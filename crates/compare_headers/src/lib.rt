@@ -67,7 +67,7 @@ fn of_verdict(line: &[u8], kept: Kept, out: &mut [u8], at: usize) -> Answered {
 
 fn of_triggers(line: &[u8], kept: Kept, out: &mut [u8], at: usize) -> Answered {
     let validator = kept.validator;
-    let first = triggers::set_up(line, b"first", kept.first);
+    let first = triggers::again(line, triggers::set_up(line, b"first", kept.first));
     let second = triggers::set_up(line, b"second", kept.second);
     Answered {
         at: triggers::answer(line, first, second, out, at),

@@ -9,6 +9,7 @@ pub(crate) fn takes(line: &[u8]) -> bool {
     words::fits(line, b"triggers")
         || words::fits(line, b"first 4*")
         || words::fits(line, b"second 4*")
+        || words::fits(line, b"again 8 4")
         || words::fits(line, b"list 8?")
         || words::fits(line, b"compare 8?")
 }
@@ -20,6 +21,25 @@ pub(crate) fn set_up(line: &[u8], name: &[u8], stats: TriggerStats) -> TriggerSt
     }
     if words::is_case(line, name) {
         return collected(line, stats);
+    }
+    stats
+}
+
+// The statistics after a line that counts one word many times, in the first of them.
+pub(crate) fn again(line: &[u8], stats: TriggerStats) -> TriggerStats {
+    if !words::is_case(line, b"again") {
+        return stats;
+    }
+    let times = words::number(words::word(line, 1));
+    counted(times, words::number32(words::word(line, 2)), stats)
+}
+
+fn counted(times: u64, word: u32, stats: TriggerStats) -> TriggerStats {
+    let mut stats = stats;
+    let mut left = times;
+    while left > 0 {
+        stats = stats.collect_stats(word);
+        left -= 1;
     }
     stats
 }
