@@ -3,11 +3,13 @@
 
     make_cases.py headers SEED COUNT    headers to decode, encode and show, and pairs of them
     make_cases.py verdicts SEED COUNT   verdicts, in sequences of at most 16
+    make_cases.py lengths SEED COUNT    verdicts, rows and trigger texts into buffers of every length near the text's
     make_cases.py fees                  every FEE id, and layers and staves
     make_cases.py names SEED COUNT      stave names and what is none
     make_cases.py triggers SEED COUNT   pairs of trigger statistics
     make_cases.py scans SEED            scans of every recording that make_recordings.py makes from the seed
     make_cases.py carry                 scans of 70,000 headers that bring the payload sum to 2^32 - 1, and past it
+    make_cases.py wrap                  a trigger word that is counted 2^32 + 1 times
 """
 import random
 import sys
@@ -42,6 +44,7 @@ def headers(rng, count):
         other = bytearray(one)
         other[rng.randrange(HEADER)] ^= rng.choice([0, 1 << rng.randrange(8)])
         print("equal", one.hex(), other.hex())
+        print("encode", one.hex(), rng.choice([0, 63, 64, 65, rng.randrange(200)]))
     print("header -")
     print("header", one[:63].hex())
     print("header", one.hex() + "00ff")
@@ -52,9 +55,41 @@ def verdicts(rng, count):
     for _ in range(count):
         if left == 0:
             left = rng.randrange(1, 17)
-            print("validator", rng.choice(["-", "-", 6, 7, rng.randrange(256)]), rng.randrange(2))
+            lent = rng.random() < 0.3
+            print(*some_validator(rng))
         left -= 1
-        print("verdict", some_header(rng).hex())
+        print("verdict", some_header(rng).hex(), *[some_length(rng)] * lent)
+
+
+def some_validator(rng):
+    """With a version, with none, or with none and a header ID that is settled."""
+    its = rng.randrange(2)
+    some_id = rng.choice([6, 7, 7, rng.randrange(256)])
+    return rng.choice(3 * [("validator", "-", its)] + [("validator", some_id, its), ("validator", "-", its, some_id)])
+
+
+def some_length(rng):
+    """A buffer that is too short for any text, for some, or for none."""
+    return rng.choice([0, 3, rng.randrange(150), rng.randrange(420), 512])
+
+
+def lengths(rng, count):
+    """Each text into every length up to one that suffices. A verdict that is refused settles nothing, so what settles the header ID is the
+    first one that has room, unless another header comes between."""
+    for _ in range(count):
+        one, other = some_header(rng), some_header(rng)
+        print(*some_validator(rng))
+        for length in range(410):
+            print("verdict", one.hex(), length)
+            if rng.random() < 0.01:
+                print("verdict", other.hex(), some_length(rng))
+        for length in range(100, 118):
+            print("header", one.hex(), length)
+        trigger_words(rng)
+        for length in [0, 3, *range(390, 460)]:
+            print("list", length)
+        for length in range(0, 1200, 7):
+            print("compare", length)
 
 
 def fees():
@@ -87,13 +122,27 @@ def names(rng, count):
 
 def triggers(rng, count):
     for _ in range(count):
-        print("triggers")
-        mask = rng.choice([0xFFFFFFFF, rng.getrandbits(32), rng.getrandbits(32) & rng.getrandbits(32)])
-        same = [rng.getrandbits(32) & mask for _ in range(rng.randrange(40))]
-        print(" ".join(map(str, ["first", *same])))
-        print(" ".join(map(str, ["second", *(w for w in same if rng.random() < 0.9)])))
+        trigger_words(rng)
         print("list")
         print("compare")
+
+
+def trigger_words(rng):
+    """Words for two statistics, of which the second lacks some; now and then so many that a count outgrows its column."""
+    print("triggers")
+    mask = rng.choice([0xFFFFFFFF, rng.getrandbits(32), rng.getrandbits(32) & rng.getrandbits(32)])
+    same = [rng.getrandbits(32) & mask for _ in range(rng.randrange(40))]
+    print("first", *same)
+    print("second", *(w for w in same if rng.random() < 0.9))
+    if rng.random() < 0.05:
+        print("again", rng.choice([999_990, 10**6, 3 * 10**6]), rng.getrandbits(32))
+
+
+def wrap():
+    print("triggers")
+    print("again", (1 << 32) + 1, 0x4813)
+    print("list")
+    print("compare")
 
 
 def print_recording(recording):
@@ -129,7 +178,8 @@ def scans(seed):
         for skip, stats in 2 * [(0, 0), (0, 1), (1, 0), (1, 1)]:
             settings = some_filters(rng, sources) | dict(
                 skip=skip, stats=stats, more=rng.choice([0, 1, 2, 9]), loads=rng.choice(6 * ["-"] + [rng.randrange(6)]),
-                window=rng.choice([64, 65, 100, 128, 1000, 8192, 65_536]), places=4096)
+                window=rng.choice([0, 1, 64, 65, 100, 128, 1000, 8192, 65_536, rng.randrange(65_536)]),
+                places=rng.choice(20 * [4096] + [rng.randrange(12)]))
             print("scan", *(f"{key}={value}" for key, value in settings.items()))
 
 
@@ -143,14 +193,12 @@ def carry():
 
 def main(words):
     match words:
-        case ["headers" | "verdicts" | "names" | "triggers" as kind, seed, count]:
+        case ["headers" | "verdicts" | "lengths" | "names" | "triggers" as kind, seed, count]:
             globals()[kind](random.Random(f"{kind} {seed}"), int(count))
         case ["scans", seed]:
             scans(int(seed))
-        case ["fees"]:
-            fees()
-        case ["carry"]:
-            carry()
+        case ["fees" | "carry" | "wrap" as kind]:
+            globals()[kind]()
         case _:
             sys.exit(__doc__)
 
