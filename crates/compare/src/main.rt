@@ -2,8 +2,8 @@
 // describes the lines. What a line is answered with is the libraries' own; here is the reading and the writing.
 use case_lines::input;
 use case_lines::reply;
-use compare_headers::Answered;
-use compare_headers::Kept;
+use compare_sequences::Answered;
+use compare_sequences::Kept;
 
 fn main() {
     let mut lines = [0u8; 65536];
@@ -13,7 +13,7 @@ fn main() {
 
 // Nothing says that an input ends, and a proved loop must: so the lines are counted down, from a number that no run uses up.
 fn answer_all(lines: &mut [u8], out: &mut [u8]) {
-    let mut kept = compare_headers::new();
+    let mut kept = compare_sequences::new();
     let mut next = 0;
     let mut filled = 0;
     let mut at = 0;
@@ -40,5 +40,11 @@ fn answer(line: &[u8], kept: Kept, out: &mut [u8], at: usize) -> Answered {
     if line.len() == 0 || line[0] == b'#' {
         return Answered { at, kept };
     }
-    compare_headers::answer(line, kept, out, at)
+    if compare_sequences::takes(line) {
+        return compare_sequences::answer(line, kept, out, at);
+    }
+    Answered {
+        at: compare_headers::answer(line, out, at),
+        kept,
+    }
 }

@@ -15,7 +15,7 @@ pub(crate) fn takes(line: &[u8]) -> bool {
 }
 
 // The header in the bytes of a word, of which the first 128 are lent.
-pub(crate) fn decoded(word: &[u8]) -> FromBuf {
+pub fn decoded(word: &[u8]) -> FromBuf {
     let mut buffer = [0u8; 128];
     let start = 0;
     let end = least(words::bytes(word, &mut buffer, 0), 128);
@@ -54,15 +54,15 @@ fn encode(line: &[u8], rdh: RdhCru, out: &mut [u8], at: usize) -> usize {
     let start = 0;
     let end = texts::room(line, 2);
     let buffer = &mut room[start..end];
-    match serde_rdh::to_byte_slice(rdh, buffer) {
-        ToByteSlice::Written => {
-            let at = reply::line(out, at, b"written");
-            texts::lent(out, at, line, 2, buffer)
-        }
-        ToByteSlice::TooShort => {
-            let at = reply::line(out, at, b"refused 9");
-            texts::lent(out, at, line, 2, buffer)
-        }
+    let answer = serde_rdh::to_byte_slice(rdh, buffer);
+    let at = encoded(answer, out, at);
+    texts::lent(out, at, line, 2, buffer)
+}
+
+fn encoded(answer: ToByteSlice, out: &mut [u8], at: usize) -> usize {
+    match answer {
+        ToByteSlice::Written => reply::line(out, at, b"written"),
+        ToByteSlice::TooShort => reply::line(out, at, b"refused 9"),
     }
 }
 

@@ -7,12 +7,12 @@ use case_lines::words::Parsed;
 use text::Written;
 
 // The longest buffer that is lent, and what it holds before.
-pub(crate) const ROOM: usize = 4096;
+pub const ROOM: usize = 4096;
 
-pub(crate) const FILL: u8 = b'~';
+pub const FILL: u8 = b'~';
 
 // How many bytes are lent: what word `k` says, or all.
-pub(crate) fn room(line: &[u8], k: usize) -> usize
+pub fn room(line: &[u8], k: usize) -> usize
     ensures { λ r. ⌜ r ≤ 4096 ⌝ }
 {
     match words::decimal(words::word(line, k)) {
@@ -22,7 +22,7 @@ pub(crate) fn room(line: &[u8], k: usize) -> usize
 }
 
 // The text that was written, between `before` and `behind`, or the refusal.
-pub(crate) fn written(
+pub fn written(
     out: &mut [u8],
     at: usize,
     before: &[u8],
@@ -43,7 +43,7 @@ pub(crate) fn written(
 }
 
 // The whole buffer, where word `k` says how long it is.
-pub(crate) fn lent(out: &mut [u8], at: usize, line: &[u8], k: usize, buffer: &[u8]) -> usize {
+pub fn lent(out: &mut [u8], at: usize, line: &[u8], k: usize, buffer: &[u8]) -> usize {
     if words::word(line, k).len() == 0 {
         return at;
     }

@@ -1,7 +1,7 @@
 // Cases of trigger statistics.
-use crate::texts;
 use case_lines::reply;
 use case_lines::words;
+use compare_headers::texts;
 use text::Written;
 use trigger_stats::TriggerStats;
 

@@ -1,9 +1,9 @@
 // Cases of the verdict: a validator, and headers that it checks one after the other.
-use crate::headers;
-use crate::texts;
 use case_lines::reply;
 use case_lines::words;
 use case_lines::words::Parsed;
+use compare_headers::headers;
+use compare_headers::texts;
 use rdh::rdh_cru::RdhCru;
 use serde_rdh::FromBuf;
 use text::Written;

@@ -1,7 +1,7 @@
 -- Each turn leaves one time less.
 use borrow.Author.Needs.{needs}
-use Rattle.compare_headers.proofs.triggers.counted.Statement.{statement}
-use Rattle.compare_headers.proofs.triggers.counted.Tie as tie
+use Rattle.compare_sequences.proofs.triggers.counted.Statement.{statement}
+use Rattle.compare_sequences.proofs.triggers.counted.Tie as tie
 
 abbrev Inv-loop : tie.InvT-loop
 Inv-loop times word stats₀ left₀ stats left = Unit {0}

@@ -2,8 +2,8 @@
 use Prim.Native.Nat.{_-_}
 use borrow.Author.Needs.{needs}
 use lib.ListN.{length}
-use Rattle.compare_headers.proofs.triggers.collected.Statement.{statement}
-use Rattle.compare_headers.proofs.triggers.collected.Tie as tie
+use Rattle.compare_sequences.proofs.triggers.collected.Statement.{statement}
+use Rattle.compare_sequences.proofs.triggers.collected.Tie as tie
 
 abbrev Inv-loop : tie.InvT-loop
 Inv-loop line stats₀ k₀ stats k = Unit {0}
