@@ -9,7 +9,7 @@
     make_cases.py triggers SEED COUNT   pairs of trigger statistics
     make_cases.py scans SEED            scans of every recording that make_recordings.py makes from the seed
     make_cases.py carry                 scans of 70,000 headers that bring the payload sum to 2^32 - 1, and past it
-    make_cases.py wrap                  a trigger word that is counted 2^32 + 1 times
+    make_cases.py wrap                  a trigger word that is counted 2^32 - 1 times, and twice more
 """
 import random
 import sys
@@ -140,9 +140,10 @@ def trigger_words(rng):
 
 def wrap():
     print("triggers")
-    print("again", (1 << 32) + 1, 0x4813)
-    print("list")
-    print("compare")
+    for times in [(1 << 32) - 1, 2]:
+        print("again", times, 0x4813)
+        print("list")
+        print("compare")
 
 
 def print_recording(recording):
