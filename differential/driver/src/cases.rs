@@ -61,7 +61,7 @@ fn set_up(state: &mut State, words: &[&str]) -> Result<bool> {
         ["first", words @ ..] => collect(&mut state.first, words)?,
         ["second", words @ ..] => collect(&mut state.second, words)?,
         ["again", times, word] => {
-            for _ in 0..number(times)? {
+            for _ in 0..number::<u64>(times)? {
                 state.first.collect_stats(number(word)?);
             }
         }
