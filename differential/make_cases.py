@@ -8,11 +8,13 @@
     make_cases.py names SEED COUNT      stave names and what is none
     make_cases.py triggers SEED COUNT   pairs of trigger statistics
     make_cases.py scans SEED            scans of every recording that make_recordings.py makes from the seed
+    make_cases.py edges                 scans of two headers, an offset or a memory size of the first at its edges, with every filter
     make_cases.py carry                 scans of 70,000 headers that bring the payload sum to 2^32 - 1, and past it
     make_cases.py wrap                  a trigger word that is counted 2^32 - 1 times, and twice more
 """
 import random
 import sys
+from itertools import cycle, product
 
 from make_recordings import FIELDS, HEADER, LAYOUT, SOUND, SOURCES, STAVES, every, header
 
@@ -184,6 +186,18 @@ def scans(seed):
             print("scan", *(f"{key}={value}" for key, value in settings.items()))
 
 
+def edges():
+    fields = [("offset", [0, 63, 64, 65, 128, 10_064, 10_065, 65_535]), ("memory", [0, 63, 64, 65, 128, 129, 65_535])]
+    filters = ["", " link=3", " fee=12587", " stave=12331"]
+    windows = cycle([0, 64, 100, 65_536])
+    for name, values in fields:
+        for value in values:
+            print_recording(header(**{name: value}) + header(fee_id=0x312B, link=3, counter=1))
+            for wanted in filters:
+                for skip, stats in product([0, 1], [0, 1]):
+                    print(f"scan{wanted} skip={skip} stats={stats} more=2 window={next(windows)} places=4096")
+
+
 def carry():
     # 16 headers whose payload sizes add up to 983,055; 4,369 times that is 2^32 - 1. One byte less or more steps over it.
     for last in [1054, 1053, 1055]:
@@ -198,7 +212,7 @@ def main(words):
             globals()[kind](random.Random(f"{kind} {seed}"), int(count))
         case ["scans", seed]:
             scans(int(seed))
-        case ["fees" | "carry" | "wrap" as kind]:
+        case ["fees" | "edges" | "carry" | "wrap" as kind]:
             globals()[kind]()
         case _:
             sys.exit(__doc__)
