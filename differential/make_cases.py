@@ -47,9 +47,8 @@ def headers(rng, count):
         other[rng.randrange(HEADER)] ^= rng.choice([0, 1 << rng.randrange(8)])
         print("equal", one.hex(), other.hex())
         print("encode", one.hex(), rng.choice([0, 63, 64, 65, rng.randrange(200)]))
-    print("header -")
-    print("header", one[:63].hex())
-    print("header", one.hex() + "00ff")
+    for length in [0, 1, *range(60, 70), 127, 128]:
+        print("header", (one + other)[:length].hex() or "-")
 
 
 def verdicts(rng, count):
