@@ -1,0 +1,115 @@
+// The lines that set up a call: recording, settings, state, links and FEE list.
+use crate::Kept;
+use case_lines::least;
+use case_lines::words;
+use case_lines::words::Parsed;
+use filter::FilterOpt;
+use filter::Option8;
+use filter::Option16;
+use scan_cdp::BytePlace;
+use scan_cdp::Counts;
+use scan_cdp::OpenLoad;
+use scan_cdp::Position;
+use scan_cdp::Progress;
+use scan_cdp::Settings;
+
+pub(crate) fn with_recording(kept: Kept, length: usize, times: u32) -> Kept {
+    let mut kept = kept;
+    kept.length = length;
+    kept.times = times;
+    kept
+}
+
+pub(crate) fn with_settings(line: &[u8], kept: Kept) -> Kept {
+    let mut kept = kept;
+    let set = settings(line);
+    kept.set = set;
+    kept
+}
+
+pub(crate) fn with_state(line: &[u8], kept: Kept) -> Kept {
+    let mut kept = kept;
+    let progress = stated(line, kept.progress.links_used, kept.progress.fee_ids_used);
+    kept.progress = progress;
+    kept
+}
+
+pub(crate) fn with_links(line: &[u8], kept: Kept, links: &mut [u16]) -> Kept {
+    let mut kept = kept;
+    kept.progress.links_used = words::number(words::word(line, 1)) as usize;
+    list(line, 2, links);
+    kept
+}
+
+pub(crate) fn with_fee_ids(line: &[u8], kept: Kept, fee_ids: &mut [u16]) -> Kept {
+    let mut kept = kept;
+    kept.places = least(words::number(words::word(line, 1)) as usize, fee_ids.len());
+    kept.progress.fee_ids_used = words::number(words::word(line, 2)) as usize;
+    list(line, 3, fee_ids);
+    kept
+}
+
+// Puts the line's numbers from word `from` on into the list, and 0 into the places behind them.
+fn list(line: &[u8], from: usize, places: &mut [u16]) {
+    let mut i = 0;
+    while i < places.len() {
+        places[i] = words::number16(words::word(line, std::num::wrapping_add_usize(from, i)));
+        i += 1;
+    }
+}
+
+// The settings that a line names. What it leaves out is not set.
+pub(crate) fn settings(line: &[u8]) -> Settings {
+    let filter_link = option8(words::value(line, b"link="));
+    let filter_fee = option16(words::value(line, b"fee="));
+    let filter_its_stave = option16(words::value(line, b"stave="));
+    let filter = FilterOpt {
+        filter_link,
+        filter_fee,
+        filter_its_stave,
+    };
+    Settings {
+        filter,
+        skip_payload: words::is_one(words::value(line, b"skip=")),
+        stats: words::is_one(words::value(line, b"stats=")),
+    }
+}
+
+fn option8(word: &[u8]) -> Option8 {
+    match words::decimal(word) {
+        Parsed::Number(_) => Option8::Some(words::number8(word)),
+        Parsed::None => Option8::None,
+    }
+}
+
+fn option16(word: &[u8]) -> Option16 {
+    match words::decimal(word) {
+        Parsed::Number(_) => Option16::Some(words::number16(word)),
+        Parsed::None => Option16::None,
+    }
+}
+
+// The progress that a line states, with these used numbers: place, position, the start of an open load, and the counts. What there is no
+// word for is 0, and no load is open.
+pub(crate) fn stated(line: &[u8], links_used: usize, fee_ids_used: usize) -> Progress {
+    let load = open_load(words::word(line, 3));
+    Progress {
+        place: BytePlace(words::number(words::word(line, 1))),
+        position: Position(words::number(words::word(line, 2))),
+        load,
+        counts: Counts {
+            seen: words::number32(words::word(line, 4)),
+            filtered: words::number32(words::word(line, 5)),
+            payload: words::number32(words::word(line, 6)),
+        },
+        links_used,
+        fee_ids_used,
+    }
+}
+
+fn open_load(word: &[u8]) -> OpenLoad {
+    match words::decimal(word) {
+        Parsed::Number(n) => OpenLoad::From(Position(n)),
+        Parsed::None => OpenLoad::None,
+    }
+}
