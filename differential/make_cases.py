@@ -8,6 +8,7 @@
     make_cases.py names SEED COUNT      stave names and what is none
     make_cases.py triggers SEED COUNT   pairs of trigger statistics
     make_cases.py scans SEED            scans of every recording that make_recordings.py makes from the seed
+    make_cases.py sweeps SEED           scans of a short recording, sound or damaged, cut at every length
     make_cases.py edges                 scans of two headers, an offset or a memory size of the first at its edges, with every filter
     make_cases.py carry                 scans of 70,000 headers that bring the payload sum to 2^32 - 1, and past it
     make_cases.py wrap                  a trigger word that is counted 2^32 - 1 times, and twice more
@@ -16,7 +17,7 @@ import random
 import sys
 from itertools import cycle, product
 
-from make_recordings import FIELDS, HEADER, LAYOUT, SOUND, SOURCES, STAVES, every, header
+from make_recordings import FIELDS, HEADER, LAYOUT, SOURCES, STAVES, every, header, packet
 
 # How many bits each field of the header has, and values at which its test or its text changes.
 WIDTHS = dict(zip(FIELDS, (8 * {"B": 1, "H": 2, "I": 4, "Q": 8}[c] for c in LAYOUT.format if c in "BHIQ")))
@@ -178,23 +179,42 @@ def scans(seed):
         print_recording(recording)
         sources = sources_in(recording)
         for skip, stats in 2 * [(0, 0), (0, 1), (1, 0), (1, 1)]:
-            settings = some_filters(rng, sources) | dict(
-                skip=skip, stats=stats, more=rng.choice([0, 1, 2, 9]), loads=rng.choice(6 * ["-"] + [rng.randrange(6)]),
-                window=rng.choice([0, 1, 64, 65, 100, 128, 1000, 8192, 65_536, rng.randrange(65_536)]),
-                places=rng.choice(20 * [4096] + [rng.randrange(12)]))
-            print("scan", *(f"{key}={value}" for key, value in settings.items()))
+            print_scan(some_filters(rng, sources), skip=skip, stats=stats, **some_reading(rng))
+
+
+def some_reading(rng):
+    """How often to load, and the windows and FEE places that are lent."""
+    return dict(
+        more=rng.choice([0, 1, 2, 9]), loads=rng.choice(6 * ["-"] + [rng.randrange(6)]),
+        window=rng.choice([0, 1, 64, 65, 100, 128, 1000, 8192, 65_536, rng.randrange(65_536)]),
+        back=rng.choice([0, 0, 1, 64, rng.randrange(256)]), places=rng.choice(20 * [4096] + [rng.randrange(12)]))
+
+
+def print_scan(filters, **settings):
+    print("scan", *(f"{key}={value}" for key, value in (filters | settings).items()))
+
+
+def sweeps(seed):
+    rng = random.Random(f"sweeps {seed}")
+    recording = bytearray(b"".join(packet(rng, rng.randrange(HEADER, 100)) for _ in range(4)))
+    for _ in range(rng.randrange(3)):
+        recording[rng.randrange(len(recording))] ^= rng.randrange(1, 256)
+    print_recording(recording)
+    sources = sources_in(recording)
+    for length in range(len(recording) + 1):
+        print_scan(some_filters(rng, sources), skip=rng.randrange(2), stats=rng.randrange(2), **some_reading(rng), length=length)
 
 
 def edges():
     fields = [("offset", [0, 63, 64, 65, 128, 10_064, 10_065, 65_535]), ("memory", [0, 63, 64, 65, 128, 129, 65_535])]
-    filters = ["", " link=3", " fee=12587", " stave=12331"]
+    filters = [{}, dict(link=3), dict(fee=0x312B), dict(stave=0x302B)]
     windows = cycle([0, 64, 100, 65_536])
     for name, values in fields:
         for value in values:
             print_recording(header(**{name: value}) + header(fee_id=0x312B, link=3, counter=1))
             for wanted in filters:
                 for skip, stats in product([0, 1], [0, 1]):
-                    print(f"scan{wanted} skip={skip} stats={stats} more=2 window={next(windows)} places=4096")
+                    print_scan(wanted, skip=skip, stats=stats, more=2, window=next(windows), places=4096)
 
 
 def carry():
@@ -202,15 +222,15 @@ def carry():
     for last in [1054, 1053, 1055]:
         print_recording(header(memory=65_535) * 15 + header(memory=last))
         print("repeat", 4370)
-        print("scan link=- fee=- stave=- skip=1 stats=1 more=0 loads=- window=65536 places=4096")
+        print_scan({}, skip=1, stats=1, window=65_536, places=4096)
 
 
 def main(words):
     match words:
         case ["headers" | "verdicts" | "lengths" | "names" | "triggers" as kind, seed, count]:
             globals()[kind](random.Random(f"{kind} {seed}"), int(count))
-        case ["scans", seed]:
-            scans(int(seed))
+        case ["scans" | "sweeps" as kind, seed]:
+            globals()[kind](int(seed))
         case ["fees" | "edges" | "carry" | "wrap" as kind]:
             globals()[kind]()
         case _:

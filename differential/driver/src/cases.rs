@@ -85,7 +85,10 @@ fn answer(state: &mut State, words: &[&str], out: &mut impl Write) -> Result<()>
         ["name", word] => name(bytes(word)?, out),
         ["list", room @ ..] => lent::put("", &state.first.to_string(), "", lent::length(room)?, out),
         ["compare", room @ ..] => lent::put("", &compared(&state.first, &state.second), "", lent::length(room)?, out),
-        ["scan", settings @ ..] => scan(&Settings::read(settings)?, state.disk.hold(&state.recording)?, out),
+        ["scan", settings @ ..] => {
+            let settings = Settings::read(settings)?;
+            scan(&settings, state.disk.hold(settings.part(&state.recording))?, out)
+        }
         _ => Err(refuse(format!("no case: {}", words.join(" ")))),
     }
 }
