@@ -24,25 +24,14 @@ fn main() {
     let mut links = [0u16; 256];
     let mut fee_ids = [0u16; 4096];
     let mut out = [0u8; 65536];
-    answer_all(
+    let at = answer_all(
         &mut lines,
         &mut recording,
         &mut links,
         &mut fee_ids,
         &mut out,
     );
-}
-
-fn answer_all(
-    lines: &mut [u8],
-    recording: &mut [u8],
-    links: &mut [u16],
-    fee_ids: &mut [u16],
-    out: &mut [u8],
-) {
-    let begun = begun();
-    let reading = answer_lines(begun, lines, recording, links, fee_ids, out);
-    reply::flush(out, reading.kept.scans.at);
+    reply::flush(&out, at);
 }
 
 fn begun() -> Reading {
@@ -57,16 +46,15 @@ fn begun() -> Reading {
     }
 }
 
-// Nothing says that an input ends, and a proved loop must: so the lines are counted down, from a number that no run uses up.
-fn answer_lines(
-    begun: Reading,
+// How many bytes of replies wait after the last line. Nothing says that an input ends, and a proved loop must: so the lines are counted down, from a number that no run uses up.
+fn answer_all(
     lines: &mut [u8],
     recording: &mut [u8],
     links: &mut [u16],
     fee_ids: &mut [u16],
     out: &mut [u8],
-) -> Reading {
-    let mut reading = begun;
+) -> usize {
+    let mut reading = begun();
     let mut left = u64::MAX;
     while left > 0 {
         left -= 1;
@@ -75,7 +63,7 @@ fn answer_lines(
         }
         reading = answer_next(reading, lines, recording, links, fee_ids, out);
     }
-    reading
+    reading.kept.scans.at
 }
 
 fn answer_next(

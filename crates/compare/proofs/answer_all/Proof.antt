@@ -2,8 +2,8 @@
 use mathlib.Core.Path.{_≡_}
 use borrow.Author.Needs.{needs}
 use lib.ListN.{length}
-use Rattle.compare.proofs.answer_lines.Statement.{statement}
-use Rattle.compare.proofs.answer_lines.Tie as tie
+use Rattle.compare.proofs.answer_all.Statement.{statement}
+use Rattle.compare.proofs.answer_all.Tie as tie
 
 abbrev Inv-loop : tie.InvT-loop
 Inv-loop lines₀ recording₀ links₀ fee-ids₀ out₀ reading₀ left₀ lines recording links fee-ids out reading left =
@@ -15,6 +15,9 @@ Inv-loop lines₀ recording₀ links₀ fee-ids₀ out₀ reading₀ left₀ lin
 
 abbrev μ-loop : tie.MeasureT-loop
 μ-loop lines₀ recording₀ links₀ fee-ids₀ out₀ reading₀ left₀ lines recording links fee-ids out reading left = left
+
+begun-requires : tie.Need-begun-requires Inv-loop μ-loop
+begun-requires c κs = search needs
 
 loop-holds : tie.Need-loop-holds Inv-loop μ-loop
 loop-holds c = search needs
@@ -67,12 +70,13 @@ same-length-10 c = search needs
 returns-2 : tie.Need-returns-2 Inv-loop μ-loop
 returns-2 c = search needs
 
-pub answer-lines-spec : {M : Type 1} → statement M
-answer-lines-spec =
+pub answer-all-spec : {M : Type 1} → statement M
+answer-all-spec =
     tie.close
     (tie.spec
     Inv-loop
     μ-loop
+    begun-requires
     loop-holds
     sub-left
     answer-next-requires
