@@ -46,7 +46,8 @@ fn begun() -> Reading {
     }
 }
 
-// How many bytes of replies wait after the last line. Nothing says that an input ends, and a proved loop must: so the lines are counted down, from a number that no run uses up.
+// How many bytes of replies wait after the last line. Nothing says that an input ends, and a proved loop must: so the lines are counted
+// down, from a number that no run uses up.
 fn answer_all(
     lines: &mut [u8],
     recording: &mut [u8],
