@@ -3,16 +3,21 @@
 
     make_cases.py headers SEED COUNT    headers to decode, encode and show, and pairs of them
     make_cases.py verdicts SEED COUNT   verdicts, in sequences of at most 16
+    make_cases.py lengths SEED COUNT    verdicts, rows and trigger texts into buffers of every length near the text's
     make_cases.py fees                  every FEE id, and layers and staves
     make_cases.py names SEED COUNT      stave names and what is none
     make_cases.py triggers SEED COUNT   pairs of trigger statistics
     make_cases.py scans SEED            scans of every recording that make_recordings.py makes from the seed
+    make_cases.py sweeps SEED           scans of a short recording, sound or damaged, cut at every length
+    make_cases.py edges                 scans of two headers, an offset or a memory size of the first at its edges, with every filter
     make_cases.py carry                 scans of 70,000 headers that bring the payload sum to 2^32 - 1, and past it
+    make_cases.py wrap                  a trigger word that is counted 2^32 - 1 times, and twice more
 """
 import random
 import sys
+from itertools import cycle, product
 
-from make_recordings import FIELDS, HEADER, LAYOUT, SOUND, SOURCES, STAVES, every, header
+from make_recordings import FIELDS, HEADER, LAYOUT, SOURCES, STAVES, every, header, packet
 
 # How many bits each field of the header has, and values at which its test or its text changes.
 WIDTHS = dict(zip(FIELDS, (8 * {"B": 1, "H": 2, "I": 4, "Q": 8}[c] for c in LAYOUT.format if c in "BHIQ")))
@@ -42,9 +47,9 @@ def headers(rng, count):
         other = bytearray(one)
         other[rng.randrange(HEADER)] ^= rng.choice([0, 1 << rng.randrange(8)])
         print("equal", one.hex(), other.hex())
-    print("header -")
-    print("header", one[:63].hex())
-    print("header", one.hex() + "00ff")
+        print("encode", one.hex(), rng.choice([0, 63, 64, 65, rng.randrange(200)]))
+    for length in [0, 1, *range(60, 70), 127, 128]:
+        print("header", (one + other)[:length].hex() or "-")
 
 
 def verdicts(rng, count):
@@ -52,9 +57,41 @@ def verdicts(rng, count):
     for _ in range(count):
         if left == 0:
             left = rng.randrange(1, 17)
-            print("validator", rng.choice(["-", "-", 6, 7, rng.randrange(256)]), rng.randrange(2))
+            lent = rng.random() < 0.3
+            print(*some_validator(rng))
         left -= 1
-        print("verdict", some_header(rng).hex())
+        print("verdict", some_header(rng).hex(), *[some_length(rng)] * lent)
+
+
+def some_validator(rng):
+    """With a version, with none, or with none and a header ID that is settled."""
+    its = rng.randrange(2)
+    some_id = rng.choice([6, 7, 7, rng.randrange(256)])
+    return rng.choice(3 * [("validator", "-", its)] + [("validator", some_id, its), ("validator", "-", its, some_id)])
+
+
+def some_length(rng):
+    """A buffer that is too short for any text, for some, or for none."""
+    return rng.choice([0, 3, rng.randrange(150), rng.randrange(420), 512])
+
+
+def lengths(rng, count):
+    """Each text into every length up to one that suffices. A verdict that is refused settles nothing, so what settles the header ID is the
+    first one that has room, unless another header comes between."""
+    for _ in range(count):
+        one, other = some_header(rng), some_header(rng)
+        print(*some_validator(rng))
+        for length in range(410):
+            print("verdict", one.hex(), length)
+            if rng.random() < 0.01:
+                print("verdict", other.hex(), some_length(rng))
+        for length in range(100, 118):
+            print("header", one.hex(), length)
+        trigger_words(rng)
+        for length in [0, 3, *range(390, 460)]:
+            print("list", length)
+        for length in range(0, 1200, 7):
+            print("compare", length)
 
 
 def fees():
@@ -87,11 +124,26 @@ def names(rng, count):
 
 def triggers(rng, count):
     for _ in range(count):
-        print("triggers")
-        mask = rng.choice([0xFFFFFFFF, rng.getrandbits(32), rng.getrandbits(32) & rng.getrandbits(32)])
-        same = [rng.getrandbits(32) & mask for _ in range(rng.randrange(40))]
-        print(" ".join(map(str, ["first", *same])))
-        print(" ".join(map(str, ["second", *(w for w in same if rng.random() < 0.9)])))
+        trigger_words(rng)
+        print("list")
+        print("compare")
+
+
+def trigger_words(rng):
+    """Words for two statistics, of which the second lacks some; now and then so many that a count outgrows its column."""
+    print("triggers")
+    mask = rng.choice([0xFFFFFFFF, rng.getrandbits(32), rng.getrandbits(32) & rng.getrandbits(32)])
+    same = [rng.getrandbits(32) & mask for _ in range(rng.randrange(40))]
+    print("first", *same)
+    print("second", *(w for w in same if rng.random() < 0.9))
+    if rng.random() < 0.05:
+        print("again", rng.choice([999_990, 10**6, 3 * 10**6]), rng.getrandbits(32))
+
+
+def wrap():
+    print("triggers")
+    for times in [(1 << 32) - 1, 2]:
+        print("again", times, 0x4813)
         print("list")
         print("compare")
 
@@ -127,10 +179,42 @@ def scans(seed):
         print_recording(recording)
         sources = sources_in(recording)
         for skip, stats in 2 * [(0, 0), (0, 1), (1, 0), (1, 1)]:
-            settings = some_filters(rng, sources) | dict(
-                skip=skip, stats=stats, more=rng.choice([0, 1, 2, 9]), loads=rng.choice(6 * ["-"] + [rng.randrange(6)]),
-                window=rng.choice([64, 65, 100, 128, 1000, 8192, 65_536]), places=4096)
-            print("scan", *(f"{key}={value}" for key, value in settings.items()))
+            print_scan(some_filters(rng, sources), skip=skip, stats=stats, **some_reading(rng))
+
+
+def some_reading(rng):
+    """How often to load, and the windows and FEE places that are lent."""
+    return dict(
+        more=rng.choice([0, 1, 2, 9]), loads=rng.choice(6 * ["-"] + [rng.randrange(6)]),
+        window=rng.choice([0, 1, 64, 65, 100, 128, 1000, 8192, 65_536, rng.randrange(65_536)]),
+        back=rng.choice([0, 0, 1, 64, rng.randrange(256)]), places=rng.choice(20 * [4096] + [rng.randrange(12)]))
+
+
+def print_scan(filters, **settings):
+    print("scan", *(f"{key}={value}" for key, value in (filters | settings).items()))
+
+
+def sweeps(seed):
+    rng = random.Random(f"sweeps {seed}")
+    recording = bytearray(b"".join(packet(rng, rng.randrange(HEADER, 100)) for _ in range(4)))
+    for _ in range(rng.randrange(3)):
+        recording[rng.randrange(len(recording))] ^= rng.randrange(1, 256)
+    print_recording(recording)
+    sources = sources_in(recording)
+    for length in range(len(recording) + 1):
+        print_scan(some_filters(rng, sources), skip=rng.randrange(2), stats=rng.randrange(2), **some_reading(rng), length=length)
+
+
+def edges():
+    fields = [("offset", [0, 63, 64, 65, 128, 10_064, 10_065, 65_535]), ("memory", [0, 63, 64, 65, 128, 129, 65_535])]
+    filters = [{}, dict(link=3), dict(fee=0x312B), dict(stave=0x302B)]
+    windows = cycle([0, 64, 100, 65_536])
+    for name, values in fields:
+        for value in values:
+            print_recording(header(**{name: value}) + header(fee_id=0x312B, link=3, counter=1))
+            for wanted in filters:
+                for skip, stats in product([0, 1], [0, 1]):
+                    print_scan(wanted, skip=skip, stats=stats, more=2, window=next(windows), places=4096)
 
 
 def carry():
@@ -138,19 +222,17 @@ def carry():
     for last in [1054, 1053, 1055]:
         print_recording(header(memory=65_535) * 15 + header(memory=last))
         print("repeat", 4370)
-        print("scan link=- fee=- stave=- skip=1 stats=1 more=0 loads=- window=65536 places=4096")
+        print_scan({}, skip=1, stats=1, window=65_536, places=4096)
 
 
 def main(words):
     match words:
-        case ["headers" | "verdicts" | "names" | "triggers" as kind, seed, count]:
+        case ["headers" | "verdicts" | "lengths" | "names" | "triggers" as kind, seed, count]:
             globals()[kind](random.Random(f"{kind} {seed}"), int(count))
-        case ["scans", seed]:
-            scans(int(seed))
-        case ["fees"]:
-            fees()
-        case ["carry"]:
-            carry()
+        case ["scans" | "sweeps" as kind, seed]:
+            globals()[kind](int(seed))
+        case ["fees" | "edges" | "carry" | "wrap" as kind]:
+            globals()[kind]()
         case _:
             sys.exit(__doc__)
 

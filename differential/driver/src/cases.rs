@@ -1,12 +1,12 @@
 //! The case lines, each answered by the function of the reference that it names.
 
+use crate::lent;
 use crate::placed::Disk;
 use crate::reading::{bytes, flag, hex, number, number_or_none, refuse};
 use crate::scan::{scan, Settings};
+use crate::validator::Validator;
 use alice_protocol_reader::fields;
 use alice_protocol_reader::rdh::{ByteSlice, RdhCru, SerdeRdh};
-use fastpasta::analyze::validators::rdh::RdhCruSanityValidator;
-use fastpasta::config::{CheckCommands, ChecksOpt, CustomChecksOpt, System};
 use fastpasta::stats::stats_collector::trigger_stats::TriggerStats;
 use fastpasta::stats::stats_collector::validate_other;
 use fastpasta::words::its;
@@ -16,7 +16,7 @@ use std::panic::{catch_unwind, set_hook};
 /// What earlier lines have set up for later ones.
 struct State {
     recording: Vec<u8>,
-    validator: RdhCruSanityValidator<RdhCru>,
+    validator: Validator,
     first: TriggerStats,
     second: TriggerStats,
     disk: Disk,
@@ -28,7 +28,7 @@ pub fn answer_all() -> Result<()> {
     let mut out = BufWriter::new(io::stdout().lock());
     let mut state = State {
         recording: Vec::new(),
-        validator: validator(None, false),
+        validator: Validator::new(None, false),
         first: TriggerStats::default(),
         second: TriggerStats::default(),
         disk: Disk::new()?,
@@ -55,10 +55,16 @@ fn set_up(state: &mut State, words: &[&str]) -> Result<bool> {
         ["recording"] => state.recording.clear(),
         ["bytes", word] => state.recording.extend(bytes(word)?),
         ["repeat", times] => state.recording = state.recording.repeat(number(times)?),
-        ["validator", version, its] => state.validator = validator(number_or_none(version)?, flag(its)?),
+        ["validator", version, its] => state.validator = Validator::new(number_or_none(version)?, flag(its)?),
+        ["validator", "-", its, settled] => state.validator = Validator::settled(flag(its)?, number(settled)?)?,
         ["triggers"] => (state.first, state.second) = Default::default(),
         ["first", words @ ..] => collect(&mut state.first, words)?,
         ["second", words @ ..] => collect(&mut state.second, words)?,
+        ["again", times, word] => {
+            for _ in 0..number::<u64>(times)? {
+                state.first.collect_stats(number(word)?);
+            }
+        }
         _ => return Ok(false),
     }
     Ok(true)
@@ -66,9 +72,10 @@ fn set_up(state: &mut State, words: &[&str]) -> Result<bool> {
 
 fn answer(state: &mut State, words: &[&str], out: &mut impl Write) -> Result<()> {
     match words {
-        ["header", word, ..] => header(&bytes(word)?, out),
+        ["header", word, room @ ..] => header(&bytes(word)?, lent::length(room)?, out),
+        ["encode", word, room] => encode(&decode(&bytes(word)?)?, lent::length(&[room])?, out),
         ["equal", a, b] => writeln!(out, "equal {}", (decode(&bytes(a)?)? == decode(&bytes(b)?)?) as u8),
-        ["verdict", word, ..] => verdict(&mut state.validator, &decode(&bytes(word)?)?, out),
+        ["verdict", word, room @ ..] => state.validator.verdict(&decode(&bytes(word)?)?, lent::length(room)?, out),
         ["fee", id] => {
             let id = number(id)?;
             writeln!(out, "fee {} {}", its::stave_number_from_feeid(id), its::layer_from_feeid(id))
@@ -76,9 +83,12 @@ fn answer(state: &mut State, words: &[&str], out: &mut impl Write) -> Result<()>
         ["feeid", layer, stave] => writeln!(out, "feeid {}", its::feeid_from_layer_stave(number(layer)?, number(stave)?)),
         ["match", a, b] => writeln!(out, "match {}", its::is_match_feeid_layer_stave(number(a)?, number(b)?) as u8),
         ["name", word] => name(bytes(word)?, out),
-        ["list", ..] => write!(out, "{}", state.first),
-        ["compare", ..] => compare(&state.first, &state.second, out),
-        ["scan", settings @ ..] => scan(&Settings::read(settings)?, state.disk.hold(&state.recording)?, out),
+        ["list", room @ ..] => lent::put("", &state.first.to_string(), "", lent::length(room)?, out),
+        ["compare", room @ ..] => lent::put("", &compared(&state.first, &state.second), "", lent::length(room)?, out),
+        ["scan", settings @ ..] => {
+            let settings = Settings::read(settings)?;
+            scan(&settings, state.disk.hold(settings.part(&state.recording))?, out)
+        }
         _ => Err(refuse(format!("no case: {}", words.join(" ")))),
     }
 }
@@ -90,7 +100,7 @@ fn decode(buf: &[u8]) -> Result<RdhCru> {
     RdhCru::from_buf(buf)
 }
 
-fn header(buf: &[u8], out: &mut impl Write) -> Result<()> {
+fn header(buf: &[u8], room: Option<usize>, out: &mut impl Write) -> Result<()> {
     let Ok(rdh) = catch_unwind(|| RdhCru::from_buf(buf)) else {
         return writeln!(out, "panic");
     };
@@ -99,14 +109,14 @@ fn header(buf: &[u8], out: &mut impl Write) -> Result<()> {
     for field in fields(&rdh) {
         write!(out, " {field}")?;
     }
-    writeln!(out, "\nbytes {}\nrow {rdh}", hex(rdh.to_byte_slice()))
+    writeln!(out, "\nbytes {}", hex(rdh.to_byte_slice()))?;
+    lent::put("row ", &rdh.to_string(), "\n", room, out)
 }
 
-fn verdict(validator: &mut RdhCruSanityValidator<RdhCru>, rdh: &RdhCru, out: &mut impl Write) -> Result<()> {
-    match validator.sanity_check(rdh) {
-        Ok(()) => writeln!(out, "sound"),
-        Err(text) => writeln!(out, "flawed {text}"),
-    }
+fn encode(rdh: &RdhCru, room: Option<usize>, out: &mut impl Write) -> Result<()> {
+    let bytes = rdh.to_byte_slice();
+    writeln!(out, "{}", if lent::fits(bytes, room) { "written" } else { "refused 9" })?;
+    lent::buffer(bytes, room, out)
 }
 
 fn name(bytes: Vec<u8>, out: &mut impl Write) -> Result<()> {
@@ -128,34 +138,7 @@ fn collect(counts: &mut TriggerStats, words: &[&str]) -> Result<()> {
     Ok(())
 }
 
-fn compare(first: &TriggerStats, second: &TriggerStats, out: &mut impl Write) -> Result<()> {
-    for line in validate_other(first, second).err().unwrap_or_default() {
-        writeln!(out, "{line}")?;
-    }
-    Ok(())
-}
-
-struct Config {
-    version: Option<u8>,
-    its: bool,
-}
-
-impl ChecksOpt for Config {
-    fn check(&self) -> Option<CheckCommands> {
-        Some(CheckCommands(self.its.then_some(System::ITS)))
-    }
-}
-
-impl CustomChecksOpt for Config {
-    fn custom_checks_enabled(&'static self) -> bool {
-        self.version.is_some()
-    }
-    fn rdh_version(&'static self) -> Option<u8> {
-        self.version
-    }
-}
-
-/// A validator as the reference makes it from a configuration, which must live on: its few bytes are never given back.
-pub fn validator(version: Option<u8>, its: bool) -> RdhCruSanityValidator<RdhCru> {
-    RdhCruSanityValidator::new_from_config(Box::leak(Box::new(Config { version, its })))
+/// The lines of a comparison, a line feed after each.
+fn compared(first: &TriggerStats, second: &TriggerStats) -> String {
+    validate_other(first, second).err().unwrap_or_default().iter().map(|line| format!("{line}\n")).collect()
 }

@@ -1,8 +1,8 @@
 //! The listing of a recording, as document 01 defines it for the listing program, made by the reference's functions.
 
-use crate::cases::validator;
 use crate::messages::Messages;
 use crate::scan::Settings;
+use crate::validator::validator;
 use alice_protocol_reader::input_scanner::InputScanner;
 use alice_protocol_reader::rdh::RdhCru;
 use alice_protocol_reader::scan_cdp::ScanCDP;

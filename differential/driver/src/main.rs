@@ -1,12 +1,14 @@
 //! The reference's own functions, asked by case lines on standard input, or timed over a recording. ../../README.md describes both.
 
 mod cases;
+mod lent;
 mod listing;
 mod messages;
 mod placed;
 mod reading;
 mod scan;
 mod timing;
+mod validator;
 
 use std::process::exit;
 

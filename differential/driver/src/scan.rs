@@ -22,6 +22,8 @@ pub struct Settings {
     pub more: u64,
     /// How many loads there may be in all.
     pub loads: Option<u64>,
+    /// How many bytes of the recording there are, if not all.
+    pub length: Option<usize>,
 }
 
 impl Settings {
@@ -37,11 +39,17 @@ impl Settings {
                 Some(("stats", value)) => settings.stats = flag(value)?,
                 Some(("more", value)) => settings.more = number(value)?,
                 Some(("loads", value)) => settings.loads = number_or_none(value)?,
-                Some(("window" | "places", _)) => {}
+                Some(("length", value)) => settings.length = number_or_none(value)?,
+                Some(("window" | "back" | "places", _)) => {}
                 _ => return Err(refuse(format!("no setting of a scan: {word}"))),
             }
         }
         Ok(settings)
+    }
+
+    /// The recording, or the first bytes of it.
+    pub fn part<'a>(&self, recording: &'a [u8]) -> &'a [u8] {
+        &recording[..self.length.map_or(recording.len(), |n| n.min(recording.len()))]
     }
 }
 

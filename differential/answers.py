@@ -1,0 +1,53 @@
+"""Case lines put to the two programs, and their answers. README.md describes both."""
+import subprocess
+import sys
+from pathlib import Path
+
+HERE = Path(__file__).resolve().parent
+TARGET = HERE.parent / "target"
+DRIVER = TARGET / "differential/driver"
+PORT = TARGET / "bin/compare"
+
+# The first words of lines that set something up and have no answer, and of those that forget what was set up before.
+SETS_UP = {"recording", "bytes", "repeat", "validator", "triggers", "first", "second", "again"}
+FORGETS = {"recording", "validator", "triggers"}
+
+
+def build(folder):
+    """Builds the Rust from a folder, with its driver."""
+    subprocess.run([HERE / "build", folder], check=True)
+
+
+def made(kind, *words):
+    """Lines that make_cases.py makes."""
+    command = [sys.executable, HERE / "make_cases.py", kind, *map(str, words)]
+    return subprocess.run(command, stdout=subprocess.PIPE, check=True).stdout.decode().splitlines()
+
+
+def cases(lines):
+    """Each line that has an answer, and before it the lines that it builds on and that have not come with an earlier case."""
+    set_up = []
+    for line in lines:
+        word = line.split(" ")[0]
+        if word in SETS_UP:
+            set_up.append(line)
+        elif line and word[0] != "#":
+            yield set_up, line
+            set_up = []
+
+
+def answers(program, lines):
+    """The lines of each answer, without the '.' that ends it."""
+    with (TARGET / f"differential/{program.name}.answers").open("w+b") as out:
+        subprocess.run([program], input="".join(f"{line}\n" for line in lines).encode(), stdout=out, check=True)
+        out.seek(0)
+        answer = []
+        for line in out:
+            line = line.decode(errors="backslashreplace").rstrip("\n")
+            if line == ".":
+                yield answer
+                answer = []
+            else:
+                answer.append(line)
+        if answer:
+            yield answer
