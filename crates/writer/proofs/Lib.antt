@@ -1,0 +1,4 @@
+pub mod Held
+pub mod Loan
+pub mod One
+pub mod Two
