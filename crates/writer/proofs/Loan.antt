@@ -67,31 +67,31 @@ module _ (κ : Lft) (q : Share) (γ : GName) (b o : ℕ) where
         fjoin ! $ pureI ! (at-slice u8 (ref γ zs) vals) (tt, (tt, tt)) (ap (λ (m : ℕ). sliceVal (b, o) m ∷ []) (sym e), subst (Room u8) (sym e) room) $ fjoin ! $ done !
 
 -- The callee's contract is c, of which the walk picks `to ν δ` for a buffer lent for ν under the name δ. It asks for the token, the buffer and
--- what else the item `beside` has; it gives the token back, a number and a last list of which `said` holds, and `beside` again.
-module _ {M : Type 1} {𝓤 : URA M} (ys : List ℕ) (beside : Item 𝓤) (said : ℕ → List ℕ → Type 0) where
+-- `taken`; it gives the token back, a number and a last list of which `said` holds, and `left`.
+module _ {M : Type 1} {𝓤 : URA M} (ys : List ℕ) (left : Item 𝓤) (said : ℕ → List ℕ → Type 0) where
   abbrev pub Given-back : ℕ → GName → Val → ℕ × List ℕ → Item 𝓤
   Given-back ν δ w p =
       given ((length (p .1) ≡ length ys) × said (p .0) (p .1))
-      (‵ (flft (ν ∷ []) fullShare) ⊛ (‵ (finally u8 δ (p .1)) ⊛ (‵ (usize .own (p .0) (w ∷ [])) ⊛ beside)))
+      (‵ (flft (ν ∷ []) fullShare) ⊛ (‵ (finally u8 δ (p .1)) ⊛ (‵ (usize .own (p .0) (w ∷ [])) ⊛ left)))
 
 module _ {M : Type 1} {𝓤 : URA M} {H : Heap 𝓤} {A : Atoms 𝓤} {K : Type 0} {W : Given 𝓤 H A} {Γ : List (Item 𝓤)} {E : Env 𝓤 H} {C : Calls 𝓤 H} {Λ : Loops 𝓤 H} {f : Name} {xs : List Opd} {d : Place} {rest : Body} {post : Post 𝓤 H} where
   pub calls-lent : K → FmC 𝓤 H (W .laws) C → (κ : Lft) (q : Share) (γ : GName) (b o : ℕ) (ys : List ℕ) → Room u8 (length ys)
-      → (c : Contract 𝓤) → Triple 𝓤 (C f) c → (to : ℕ → GName → c .Ghost) (beside : Item 𝓤) (said : ℕ → List ℕ → Type 0)
-      → ((ν : ℕ) (δ : GName) → ent 𝓤 (sep 𝓤 (A .lft (ν ∷ []) fullShare) (sep 𝓤 (sem 𝓤 H A (MutSlice (named 0) (ν ∷ []) u8 .own (ref κ q γ b o δ ys) (sliceVal (b, o) (length ys) ∷ []))) (mean 𝓤 H A beside))) (c .pre (to ν δ)))
-      → ((ν : ℕ) (δ : GName) (w : Val) → ent 𝓤 (c .post (to ν δ) w) (mean 𝓤 H A (later (some (Given-back ys beside said ν δ w)))))
+      → (c : Contract 𝓤) → Triple 𝓤 (C f) c → (to : ℕ → GName → c .Ghost) (taken left : Item 𝓤) (said : ℕ → List ℕ → Type 0)
+      → ((ν : ℕ) (δ : GName) → ent 𝓤 (sep 𝓤 (A .lft (ν ∷ []) fullShare) (sep 𝓤 (sem 𝓤 H A (MutSlice (named 0) (ν ∷ []) u8 .own (ref κ q γ b o δ ys) (sliceVal (b, o) (length ys) ∷ []))) (mean 𝓤 H A taken))) (c .pre (to ν δ)))
+      → ((ν : ℕ) (δ : GName) (w : Val) → ent 𝓤 (c .post (to ν δ) w) (mean 𝓤 H A (later (some (Given-back ys left said ν δ w)))))
       → ((ν : ℕ) (δ : GName) → Opds K W (raw (c .pre (to ν δ)) ∷ ‵ (Kept κ q γ b o (ν ∷ []) δ ys) ∷ Γ) E xs (c .args (to ν δ)))
       → ((w : Val) (r : ℕ) (zs : List ℕ) → length zs ≡ length ys → said r zs → Is usize r (w ∷ [])
-      → Seq K W (‵ (MutSlice (named 0) κ u8 .own (ref κ q γ b o γ zs) (sliceVal (b, o) (length ys) ∷ [])) ∷ ‵ (flft κ q) ∷ beside ∷ Γ) (lands C Λ E d w rest post))
-      → Seq K W (‵ (MutSlice (named 0) κ u8 .own (ref κ q γ b o γ ys) (sliceVal (b, o) (length ys) ∷ [])) ∷ ‵ (flft κ q) ∷ beside ∷ Γ) (runs C Λ E (seq (call f xs d) rest) post)
-  calls-lent t fm κ q γ b o ys room c met to beside said asks gives reads k =
+      → Seq K W (‵ (MutSlice (named 0) κ u8 .own (ref κ q γ b o γ zs) (sliceVal (b, o) (length ys) ∷ [])) ∷ ‵ (flft κ q) ∷ left ∷ Γ) (lands C Λ E d w rest post))
+      → Seq K W (‵ (MutSlice (named 0) κ u8 .own (ref κ q γ b o γ ys) (sliceVal (b, o) (length ys) ∷ [])) ∷ ‵ (flft κ q) ∷ taken ∷ Γ) (runs C Λ E (seq (call f xs d) rest) post)
+  calls-lent t fm κ q γ b o ys room c met to taken left said asks gives reads k =
       lft-new t tt (λ ν. move t (1 ∷ 2 ∷ []) $
       use2 W (later (some (λ (δ : GName). Lent κ q γ b o 𝓤 H A W (ν ∷ []) ys δ))) (lends κ q γ b o 𝓤 H A W (ν ∷ []) ys) $ await t tt $ pick t (λ δ. split t $
-      -- [the lent buffer; what the lender keeps; the token; beside; …]
+      -- [the lent buffer; what the lender keeps; the token; taken; …]
       move t (2 ∷ 0 ∷ 3 ∷ []) $ use3 W (raw (c .pre (to ν δ))) (asks ν δ) $
       calls-at t fm c met (to ν δ) (reads ν δ) (λ w.
-      use1 W (later (some (Given-back ys beside said ν δ w))) (gives ν δ w) $
+      use1 W (later (some (Given-back ys left said ν δ w))) (gives ν δ w) $
       await t tt $ pick t (λ p. learn t (λ e. split t $ lft-end t tt $ move t (1 ∷ []) $ split t $ move t (1 ∷ []) $ split t $
-      -- [the number; beside; the last list; the lifetime's end; what the lender keeps; …]
+      -- [the number; left; the last list; the lifetime's end; what the lender keeps; …]
       peeks t usize (Is usize) (shows 𝓤 H A usize) (p .0) (w ∷ []) (λ is. drop t $ move t (2 ∷ 3 ∷ 1 ∷ []) $
       use3 W (later (‵ (MutSlice (named 0) κ u8 .own (ref κ q γ b o γ (p .1)) (sliceVal (b, o) (length ys) ∷ [])) ⊛ ‵ (flft κ q))) (returned κ q γ b o 𝓤 H A W (ν ∷ []) ys δ (p .1) room (e .0)) $
       await t tt $ split t $ k w (p .0) (p .1) (e .0) (e .1) is))))))

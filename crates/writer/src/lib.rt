@@ -1,6 +1,9 @@
-// A text writer: it holds a lent buffer and the number of bytes written.
+// A text writer: it holds a lent buffer and the number of bytes written. Each function takes the writer apart and calls one of `text`'s on
+// the buffer and the number, so a text that does not fit is written as far as it fits and counted whole: the count is then the length needed.
 ghost use mathlib.Core.Path.{_≡_};
 ghost use mathlib.Core.List.{[], _∷_};
+ghost use Prim.Native.Nat.{min};
+ghost use lib.ListN.{take};
 ghost use Rattle.text.specs.Numerals.{decimal, hex, left, right};
 ghost use Rattle.writer.specs.Writer.{begun, extended};
 
@@ -30,6 +33,18 @@ impl<'a> TextWriter<'a> {
     {
         let count = self.count;
         let next = text::put_byte(&mut *self.buf, count, b);
+        TextWriter {
+            buf: self.buf,
+            count: next,
+        }
+    }
+
+    // A byte string.
+    pub fn write_bytes(self, s: &[u8]) -> TextWriter<'a>
+        ensures { λ r. ⌜ r ≡ extended (self .entry) (now (s .entry)) ⌝ }
+    {
+        let count = self.count;
+        let next = text::put_bytes(&mut *self.buf, count, s);
         TextWriter {
             buf: self.buf,
             count: next,
@@ -95,4 +110,28 @@ impl<'a> TextWriter<'a> {
             count: next,
         }
     }
+
+    // The buffer back, as the part that is written: all of it if more was counted than fits.
+    pub fn written(self) -> &'a [u8]
+        ensures { λ r. ⌜ now r ≡ take (self .entry .count) (now (self .entry .buf)) ⌝ }
+    {
+        let count = self.count;
+        first(self.buf, count)
+    }
+}
+
+// The first `count` bytes, or as many as there are.
+fn first(buf: &mut [u8], count: usize) -> &[u8]
+    ensures { λ r. ⌜ now r ≡ take count (now (buf .entry)) ⌝ }
+{
+    let start = 0;
+    let end = least(count, buf.len());
+    let whole = &buf[..];
+    &whole[start..end]
+}
+
+fn least(a: usize, b: usize) -> usize
+    ensures { λ r. ⌜ r ≡ min a b ⌝ }
+{
+    if a < b { a } else { b }
 }
