@@ -63,13 +63,13 @@ module _ (w : Width) (t : ℕ → List ℕ) where
   }
 
   -- the function's own
-  abbrev signature : Signature
+  abbrev pub signature : Signature
   signature = record { lifetimes = 1; outlives = []; params = writerSlot 0 ∷ plain (λ _. UInt w) ∷ []; result = writerSlot 0 }
 
-  abbrev ended : Ended
+  abbrev pub ended : Ended
   ended = record { signature = signature; kept = (no, (yes, tt)) }
 
-  abbrev clauses : {M : Type 1} (𝓤 : URA M) → Clauses 𝓤 ended
+  abbrev pub clauses : {M : Type 1} (𝓤 : URA M) → Clauses 𝓤 ended
   clauses 𝓤 κs a = record {
     ghost = Unit {0};
     requires = λ _. emp 𝓤;

@@ -62,13 +62,13 @@ module _ (t : ℕ → ℕ → List ℕ) where
   }
 
   -- the function's own
-  abbrev signature : Signature
+  abbrev pub signature : Signature
   signature = record { lifetimes = 1; outlives = []; params = writerSlot 0 ∷ plain (λ _. u64) ∷ plain (λ _. usize) ∷ []; result = writerSlot 0 }
 
-  abbrev ended : Ended
+  abbrev pub ended : Ended
   ended = record { signature = signature; kept = (no, (yes, (yes, tt))) }
 
-  abbrev clauses : {M : Type 1} (𝓤 : URA M) → Clauses 𝓤 ended
+  abbrev pub clauses : {M : Type 1} (𝓤 : URA M) → Clauses 𝓤 ended
   clauses 𝓤 κs a = record {
     ghost = Unit {0};
     requires = λ _. emp 𝓤;

@@ -2,8 +2,8 @@
 // the buffer and the number, so a text that does not fit is written as far as it fits and counted whole: the count is then the length needed.
 ghost use mathlib.Core.Path.{_≡_};
 ghost use mathlib.Core.List.{[], _∷_};
-ghost use Prim.Native.Nat.{min};
-ghost use lib.ListN.{take};
+ghost use Prim.Native.Nat.{min, suc};
+ghost use lib.ListN.{length, take};
 ghost use Rattle.text.specs.Numerals.{decimal, hex, left, right};
 ghost use Rattle.writer.specs.Writer.{begun, extended};
 
