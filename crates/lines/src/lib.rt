@@ -144,7 +144,7 @@ fn put_verdict_line(
         × Put (now (out .entry)) at (verdictLine validator (position .0) rdh) (now (out .exit)) (r .at) ⌝ }
 {
     let mut verdict_text = [0u8; 512];
-    let check = validator.sanity_check(rdh, &mut verdict_text);
+    let check = lent_validator::check(validator, rdh, &mut verdict_text);
     let verdict = check.verdict;
     let validator = check.validator;
     match verdict {

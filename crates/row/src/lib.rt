@@ -1,10 +1,10 @@
 // The row that shows a header's key values in columns, as the Rust's `Display` writes it.
 use rdh::rdh_cru::RdhCru;
-use rdh::rdh0::Rdh0;
-use rdh::rdh1::Rdh1;
-use rdh::rdh2::Rdh2;
 use text::Written;
-ghost use Rattle.row.specs.Row.{rdh0Text, rdh1Text, rdh2Text, rowText};
+use writer::TextWriter;
+ghost use mathlib.Core.Path.{_≡_};
+ghost use Rattle.row.specs.Columns.{columnsOf, columnsText};
+ghost use Rattle.row.specs.Row.{rowText};
 ghost use Rattle.text.specs.Put.{Put};
 ghost use Rattle.text.specs.Written.{Writes};
 
@@ -30,38 +30,68 @@ pub fn row(h: RdhCru, out: &mut [u8]) -> Written
 pub fn put_row(out: &mut [u8], at: usize, h: RdhCru) -> usize
     ensures { λ r. ⌜ Put (now (out .entry)) at (rowText h) (now (out .exit)) r ⌝ }
 {
-    let at = put_rdh0(out, at, h.rdh0);
-    let at = text::put_decimal_left(out, at, h.offset_new_packet as u64, 8);
-    let at = text::put_decimal_left(out, at, h.link_id as u64, 6);
-    let at = text::put_decimal_left(out, at, h.packet_counter as u64, 10);
-    let at = put_rdh1(out, at, h.rdh1);
-    let at = text::put_decimal_left(out, at, h.data_format() as u64, 11);
-    let at = put_rdh2(out, at, h.rdh2);
-    let at = text::put_byte(out, at, b' ');
-    text::put_hex(out, at, h.rdh3.detector_field as u64)
+    put_columns(out, at, columns_of(h))
 }
 
-fn put_rdh0(out: &mut [u8], at: usize, w: Rdh0) -> usize
-    ensures { λ r. ⌜ Put (now (out .entry)) at (rdh0Text w) (now (out .exit)) r ⌝ }
-{
-    let at = text::put_decimal_left(out, at, w.header_id as u64, 6);
-    let at = text::put_decimal_left(out, at, w.header_size as u64, 7);
-    let at = text::put_decimal_left(out, at, w.fee_id.0 as u64, 7);
-    text::put_decimal_left(out, at, w.system_id as u64, 6)
+// What the row shows of a header, in its order.
+struct Columns {
+    header_id: u64,
+    header_size: u64,
+    fee_id: u64,
+    system_id: u64,
+    offset_new_packet: u64,
+    link_id: u64,
+    packet_counter: u64,
+    bc: u64,
+    orbit: u64,
+    data_format: u64,
+    trigger_type: u64,
+    pages_counter: u64,
+    stop_bit: u64,
+    detector_field: u64,
 }
 
-fn put_rdh1(out: &mut [u8], at: usize, w: Rdh1) -> usize
-    ensures { λ r. ⌜ Put (now (out .entry)) at (rdh1Text w) (now (out .exit)) r ⌝ }
+fn columns_of(h: RdhCru) -> Columns
+    ensures { λ r. ⌜ r ≡ columnsOf h ⌝ }
 {
-    let at = text::put_decimal_left(out, at, w.bc() as u64, 5);
-    text::put_hex_left(out, at, w.orbit as u64, 12)
+    Columns {
+        header_id: h.rdh0.header_id as u64,
+        header_size: h.rdh0.header_size as u64,
+        fee_id: h.rdh0.fee_id.0 as u64,
+        system_id: h.rdh0.system_id as u64,
+        offset_new_packet: h.offset_new_packet as u64,
+        link_id: h.link_id as u64,
+        packet_counter: h.packet_counter as u64,
+        bc: h.rdh1.bc() as u64,
+        orbit: h.rdh1.orbit as u64,
+        data_format: h.data_format() as u64,
+        trigger_type: h.rdh2.trigger_type as u64,
+        pages_counter: h.rdh2.pages_counter as u64,
+        stop_bit: h.rdh2.stop_bit as u64,
+        detector_field: h.rdh3.detector_field as u64,
+    }
 }
 
-fn put_rdh2(out: &mut [u8], at: usize, w: Rdh2) -> usize
-    ensures { λ r. ⌜ Put (now (out .entry)) at (rdh2Text w) (now (out .exit)) r ⌝ }
+// Puts the columns at a place, each filled with blanks up to its width; the last one ends the row.
+fn put_columns(out: &mut [u8], at: usize, c: Columns) -> usize
+    ensures { λ r. ⌜ Put (now (out .entry)) at (columnsText c) (now (out .exit)) r ⌝ }
 {
-    let at = text::put_hex_left(out, at, w.trigger_type as u64, 10);
-    let at = text::put_decimal_left(out, at, w.pages_counter as u64, 9);
-    let at = text::put_decimal_left(out, at, w.stop_bit as u64, 5);
-    text::put_byte(out, at, b' ')
+    TextWriter::new(out, at)
+        .write_decimal_left(c.header_id, 6)
+        .write_decimal_left(c.header_size, 7)
+        .write_decimal_left(c.fee_id, 7)
+        .write_decimal_left(c.system_id, 6)
+        .write_decimal_left(c.offset_new_packet, 8)
+        .write_decimal_left(c.link_id, 6)
+        .write_decimal_left(c.packet_counter, 10)
+        .write_decimal_left(c.bc, 5)
+        .write_hex_left(c.orbit, 12)
+        .write_decimal_left(c.data_format, 11)
+        .write_hex_left(c.trigger_type, 10)
+        .write_decimal_left(c.pages_counter, 9)
+        .write_decimal_left(c.stop_bit, 5)
+        .write_byte(b' ')
+        .write_byte(b' ')
+        .write_hex(c.detector_field)
+        .count()
 }

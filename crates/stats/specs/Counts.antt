@@ -1,6 +1,7 @@
 -- The counts of a scan (document 01, "The chain and one examination").
 use Prim.Native.Nat.{ℕ, _+_, _-_, _%_, _^_}
 use mathlib.Core.Bool.{true, false}
+use mathlib.Core.List.{List, [], _∷_}
 use lib.Dec.{eqb}
 use Rattle.basis.specs.Pick.{pick}
 use Rattle.stats.specs.declared.Count.{Count}
@@ -16,3 +17,16 @@ added count n =
     pick (eqb ((count + n) % 2 ^ 32) fullCount)
     (record { value = 0; carry = true })
     (record { value = (count + n) % 2 ^ 32; carry = false })
+
+-- A count after several additions, how many of them were marked, and their sum.
+unfoldable pub addedAll : ℕ → List ℕ → ℕ
+addedAll count [] = count
+addedAll count (n ∷ ns) = addedAll (added count n .value) ns
+
+unfoldable pub marksOf : ℕ → List ℕ → ℕ
+marksOf count [] = 0
+marksOf count (n ∷ ns) = pick (added count n .carry) 1 0 + marksOf (added count n .value) ns
+
+unfoldable pub total : List ℕ → ℕ
+total [] = 0
+total (n ∷ ns) = n + total ns

@@ -12,11 +12,11 @@ use borrow.Author.Needs.{needs}
 use Rattle.lines.proofs.put_verdict_line.Statement.{statement}
 use Rattle.lines.proofs.put_verdict_line.Tie as tie
 
-slice-aggregate-sanity-check : tie.Need-slice-aggregate-sanity-check
-slice-aggregate-sanity-check c = search needs
+slice-aggregate-check : tie.Need-slice-aggregate-check
+slice-aggregate-check c = search needs
 
-sanity-check-requires : tie.Need-sanity-check-requires
-sanity-check-requires c κs = search needs
+check-requires : tie.Need-check-requires
+check-requires c κs = search needs
 
 enum-told : tie.Need-enum-told
 enum-told c = search needs
@@ -40,7 +40,7 @@ part-put-line-end c =
     let h = start .args .rdh in
     let held = in-range h _ (start .good .1 .1 .1 .1 .0) in
     let small = expected-byte (v .«header_id») (v .its) (h .rdh0 .«header_id») _ (id-byte h held) (start .good .1 .1 .0) in
-    let check = checked-it .sanity-check in
+    let check = checked-it .check in
     let room = length-replicate {A = ℕ} 512 0 in
     let at = start .args .position .0 in
     omega (arith, flawed-within v h small held at _ room _ _ (check .ensures) _ (judged-it .verdict .given .1))
@@ -60,7 +60,7 @@ returns c =
     let h = start .args .rdh in
     let held = in-range h _ (start .good .1 .1 .1 .1 .0) in
     let small = expected-byte (v .«header_id») (v .its) (h .rdh0 .«header_id») _ (id-byte h held) (start .good .1 .1 .0) in
-    let check = checked-it .sanity-check in
+    let check = checked-it .check in
     let room = length-replicate {A = ℕ} 512 0 in
     let at = start .args .position .0 in (
       checked v h small held at _ room _ _ (check .ensures),
@@ -81,7 +81,7 @@ returns-2 c =
     let h = start .args .rdh in
     let held = in-range h _ (start .good .1 .1 .1 .1 .0) in
     let small = expected-byte (v .«header_id») (v .its) (h .rdh0 .«header_id») _ (id-byte h held) (start .good .1 .1 .0) in
-    let check = checked-it .sanity-check in
+    let check = checked-it .check in
     let room = length-replicate {A = ℕ} 512 0 in
     let at = start .args .position .0 in
     let n = judged-it .verdict .given .0 .0 in
@@ -102,7 +102,7 @@ returns-3 c =
     let h = start .args .rdh in
     let held = in-range h _ (start .good .1 .1 .1 .1 .0) in
     let small = expected-byte (v .«header_id») (v .its) (h .rdh0 .«header_id») _ (id-byte h held) (start .good .1 .1 .0) in
-    let check = checked-it .sanity-check in
+    let check = checked-it .check in
     let room = length-replicate {A = ℕ} 512 0 in
     let at = start .args .position .0 in
     absurd (never-short v h small held at _ room _ _ (check .ensures) _ (c .enum-told2 .given .1))
@@ -111,8 +111,8 @@ pub put-verdict-line-spec : {M : Type 1} → statement M
 put-verdict-line-spec =
     tie.close
     (tie.spec
-    slice-aggregate-sanity-check
-    sanity-check-requires
+    slice-aggregate-check
+    check-requires
     enum-told
     enum-known-verdict
     sub-put-line
