@@ -1,15 +1,14 @@
 -- Laws of the row: its columns, and its length.
-use Prim.Native.Nat.{ℕ, _+_, _≤_, _<_, _^_}
+use Prim.Native.Nat.{_+_, _≤_}
 use mathlib.Core.Path.{_≡_, refl}
 use mathlib.Core.List.{append-assoc}
 use native.Mathlib.Omega.{arith}
 use lib.ListN.{length, length-append}
 use Rattle.rdh.specs.declared.rdh_cru.RdhCru.{RdhCru}
-use Rattle.serde_rdh.specs.Layout.{InRange, Field, span, value}
-use Rattle.serde_rdh.specs.Layout.Field.{header-id, header-size, fee-id, system-id, offset-new-packet, link-id, packet-counter, bc-reserved0, orbit, dataformat-reserved0, trigger-type, pages-counter, stop-bit, detector-field}
+use Rattle.serde_rdh.specs.Layout.{InRange, span, value}
+use Rattle.serde_rdh.specs.Layout.Field.{header-id, header-size, fee-id, system-id, offset-new-packet, link-id, packet-counter, orbit, trigger-type, pages-counter, stop-bit, detector-field}
 use Rattle.rdh.specs.Subfields.{bcOf, dataFormatOf}
-use Rattle.text.specs.Ascii.{ascii}
-use Rattle.text.specs.Numerals.{decimal, hex, left}
+use Rattle.text.specs.Numerals.{hex}
 use Rattle.text.specs.NumeralLaws.{decimal-column, hex-column, length-hex}
 use Rattle.row.specs.Columns.{columnsOf, columnsText}
 use Rattle.row.specs.Row.{rdh0Text, rdh1Text, rdh2Text, rowText}

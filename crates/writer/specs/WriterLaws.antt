@@ -1,6 +1,6 @@
 -- Laws of a writer: what is written one after the other stands in a row.
 use Prim.Native.Nat.{ℕ, _<_, _^_}
-use mathlib.Core.Path.{_≡_, refl, ap, _∙_}
+use mathlib.Core.Path.{_≡_, ap, _∙_}
 use mathlib.Core.List.{List, [], _++_}
 use native.Mathlib.Omega.{arith}
 use lib.ListN.{length}
@@ -26,7 +26,8 @@ begins x n room fits e =
       };
     }
 
-pub goes-on : {x : RefT (List ℕ)} {n : ℕ} {t : List ℕ} {w w′ : TextWriter} (u : List ℕ) → Wrote x n t w → w′ ≡ extended w u → Wrote x n (t ++ u) w′
+pub goes-on : {x : RefT (List ℕ)} {n : ℕ} {t : List ℕ} {w w′ : TextWriter} (u : List ℕ) → Wrote x n t w → w′ ≡ extended w u
+    → Wrote x n (t ++ u) w′
 goes-on u p e =
     record {
       same-name = ap (λ (h : TextWriter). h .buf .name) e ∙ p .same-name;

@@ -36,7 +36,8 @@ part-result-end : tie.Need-part-result-end
 part-result-end c = search needs
 
 returns : tie.Need-returns
-returns c = all-there (c .before .before .before .before .args .count) _ (c .before .before .before .before .args .buf .now) (c .before .before .least .ensures)
+returns c = all-there (c .before .before .before .before .args .count) _ (c .before .before .before .before .args .buf .now)
+    (c .before .before .least .ensures)
 
 pub first-spec : {M : Type 1} → statement M
 first-spec =

@@ -43,7 +43,8 @@ use Rattle.writer.proofs.TextWriter.new.Code as code
 abbrev stayed : Stays (f.ended .signature .params) (f.ended .kept)
 stayed = (stay-dropped (mutSliceOf (0 ∷ []) tt (plain (λ _. u8))) no, (stay-none (λ _. usize) yes, tt))
 
-module _ {M : Type 1} (𝓤 : URA M) (H : Heap 𝓤) (A : Atoms 𝓤) (W : Given 𝓤 H A) (mem : Memory → SProp 𝓤) (run : Routine → Fun 𝓤) (κ : Lft) (q : Share) (x : RefT (List ℕ)) (n : ℕ) (fits : n < 2 ^ 64) where
+module _ {M : Type 1} (𝓤 : URA M) (H : Heap 𝓤) (A : Atoms 𝓤) (W : Given 𝓤 H A) (mem : Memory → SProp 𝓤) (run : Routine
+    → Fun 𝓤) (κ : Lft) (q : Share) (x : RefT (List ℕ)) (n : ℕ) (fits : n < 2 ^ 64) where
   abbrev α : NamedLft
   α = record { mir = named 0; lft = κ }
 
@@ -62,33 +63,49 @@ module _ {M : Type 1} (𝓤 : URA M) (H : Heap 𝓤) (A : Atoms 𝓤) (W : Given
   exits : ent 𝓤 (onEntry 𝓤 H A f.signature (κ, tt) (q, tt) (x, (n, tt)) vals) (Post made)
   exits =
       qed W ((‵ (flft κ q) ⊛ ‵ ftrue) ∷ ‵ (owns (MutSlice (named 0) κ u8 ∷ usize ∷ []) (x, (n, tt)) vals) ∷ []) ∵
-      suffices ! _ (ends-at 𝓤 H A f.ended stayed (f.clauses 𝓤 H A mem run) W (((κ, tt), (q, tt), tt, (x, (n, tt)), vals), tt) made (begun x n) (tt, (tt, tt)) (tt, (tt, tt))) $ says ! refl $
+      suffices ! _ (ends-at 𝓤 H A f.ended stayed (f.clauses 𝓤 H A mem run) W (((κ, tt), (q, tt), tt, (x, (n, tt)), vals), tt) made
+      (begun x n) (tt, (tt, tt)) (tt, (tt, tt))) $ says ! refl $
       frame ! $ fsplit ! $ nothing ! $ move ! (0 ∷ 2 ∷ []) $ fjoin ! $ frame ! $
       -- [what the slice's borrow owns]: with the count it is what the struct owns
-      nothing ! $ owned ! usize (Is usize) (uint-makes 𝓤 H A W w64) n _ (refl, fits) $ fjoin ! $ move ! (1 ∷ 0 ∷ []) $ fjoin ! $ by ! (own-shut 𝓤 H A W (T.the-type α) (T′.the-laws α) (x, (n, tt)))
+      nothing ! $ owned ! usize (Is usize) (uint-makes 𝓤 H A W w64) n _ (refl, fits) $ fjoin ! $ move ! (1 ∷ 0 ∷ []) $ fjoin ! $
+      by ! (own-shut 𝓤 H A W (T.the-type α) (T′.the-laws α) (x, (n, tt)))
 
   module _ (C : Calls 𝓤 H) (Λ : Loops 𝓤 H) where
-    walk : Is (MutSlice (named 0) κ u8) x (slice ∷ []) → ent 𝓤 (onEntry 𝓤 H A f.signature (κ, tt) (q, tt) (x, (n, tt)) vals) (WpFn 𝓤 H C Λ code.function (slice ∷ vint w64 n ∷ []) Post)
+    walk : Is (MutSlice (named 0) κ u8) x (slice ∷ []) → ent 𝓤 (onEntry 𝓤 H A f.signature (κ, tt) (q, tt) (x, (n, tt)) vals)
+        (WpFn 𝓤 H C Λ code.function (slice ∷ vint w64 n ∷ []) Post)
     walk is =
-        qed W (raw (onEntry 𝓤 H A f.signature (κ, tt) (q, tt) (x, (n, tt)) vals) ∷ []) ∵ enter ! C Λ code.function (slice ∷ vint w64 n ∷ []) _ $
+        qed W (raw (onEntry 𝓤 H A f.signature (κ, tt) (q, tt) (x, (n, tt)) vals) ∷ []) ∵ enter ! C Λ code.function
+        (slice ∷ vint w64 n ∷ []) _ $
         alloc1 ! (λ l₀. alloc1 ! (λ l₁. alloc1 ! (λ l₂. alloc1 ! (λ l₃. alloc1 ! (λ l₄. alloc0 ! $ params1 ! $
-        pass1 ! (init ! 6 refl (tt, (tt, (record { fits = is .0 .1 .0 }, tt)))) $ pass1 ! (init ! 4 refl (tt, record { fits = fits })) $ pass0 ! $
+        pass1 ! (init ! 6 refl (tt, (tt, (record { fits = is .0 .1 .0 }, tt)))) $ pass1 ! (init ! 4 refl (tt, record { fits = fits })) $
+        pass0 ! $
         -- [_4; …; _3; …; _2; …; _1; …; room for _0; …]: the slice is lent on, and goes into the struct
-        assigns ! (addr ! (from ! (fld ! refl (hop ! (look-in ! 6 (sub ! 0 refl (whole !))) (stop !))))) (from ! (stop !)) (init ! 2 refl (tt, tt)) $
-        assigns ! (agg ! (and-then ! (load ! (from ! (stop !)) (look ! 2 refl)) (and-then ! (load ! (from ! (fld ! refl (stop !))) (look-in ! 6 (sub ! 1 refl (whole !)))) (no-more !)))) (from ! (stop !)) (init ! 0 refl (tt, (tt, (record { fits = is .0 .1 .0 }, tt)))) $
-        assigns ! (agg ! (and-then ! (load ! (from ! (stop !)) (look ! 0 refl)) (and-then ! (load ! (from ! (stop !)) (look ! 4 refl)) (no-more !)))) (from ! (stop !)) (init ! 8 refl (tt, ((tt, (record { fits = is .0 .1 .0 }, tt)), (record { fits = fits }, tt)))) $
+        assigns ! (addr ! (from ! (fld ! refl (hop ! (look-in ! 6 (sub ! 0 refl (whole !))) (stop !))))) (from ! (stop !))
+        (init ! 2 refl (tt, tt)) $
+        assigns ! (agg ! (and-then ! (load ! (from ! (stop !)) (look ! 2 refl))
+        (and-then ! (load ! (from ! (fld ! refl (stop !))) (look-in ! 6 (sub ! 1 refl (whole !)))) (no-more !))))
+        (from ! (stop !)) (init ! 0 refl (tt, (tt, (record { fits = is .0 .1 .0 }, tt)))) $
+        assigns ! (agg ! (and-then ! (load ! (from ! (stop !)) (look ! 0 refl))
+        (and-then ! (load ! (from ! (stop !)) (look ! 4 refl)) (no-more !)))) (from ! (stop !))
+        (init ! 8 refl (tt, ((tt, (record { fits = is .0 .1 .0 }, tt)), (record { fits = fits }, tt)))) $
         returns ! (look ! 8 refl) $ forget ! 0 refl $ forget ! 2 refl $ forget ! 4 refl $ forget ! 6 refl $ forget ! 8 refl $
-        move ! (8 ∷ 9 ∷ []) $ free1 ! $ move ! (6 ∷ 7 ∷ []) $ free1 ! $ move ! (4 ∷ 5 ∷ []) $ free1 ! $ move ! (2 ∷ 3 ∷ []) $ free1 ! $ free1 ! $ free0 ! $ by ! exits)))))
+        move ! (8 ∷ 9 ∷ []) $ free1 ! $ move ! (6 ∷ 7 ∷ []) $ free1 ! $ move ! (4 ∷ 5 ∷ []) $ free1 ! $ move ! (2 ∷ 3 ∷ []) $ free1 ! $
+        free1 ! $ free0 ! $ by ! exits)))))
 
-module _ {M : Type 1} (𝓤 : URA M) (H : Heap 𝓤) (A : Atoms 𝓤) (W : Given 𝓤 H A) (mem : Memory → SProp 𝓤) (run : Routine → Fun 𝓤) (𝓣 : Tables 𝓤 H) where
+module _ {M : Type 1} (𝓤 : URA M) (H : Heap 𝓤) (A : Atoms 𝓤) (W : Given 𝓤 H A) (mem : Memory → SProp 𝓤) (run : Routine
+    → Fun 𝓤) (𝓣 : Tables 𝓤 H) where
   walks : Walks 𝓤 H A f.ended stayed (WpFn 𝓤 H (𝓣 .C) (𝓣 .Λ) code.function) (f.clauses 𝓤 H A mem run)
   walks = walked 𝓤 H A f.ended stayed (f.clauses 𝓤 H A mem run) (WpFn 𝓤 H (𝓣 .C) (𝓣 .Λ) code.function)
       (λ κs. (slice-vals, (uint-vals w64, tt))) (λ κs. (mut-slice-tells (named 0) (κs .0) u8, (uint-tells w64, tt)))
-      (λ κs qs bounds a g are. via 𝓤 _ (fst∗ 𝓤 _ (emp 𝓤)) (walk 𝓤 H A W mem run (κs .0) (qs .0) (a .0) (a .1 .0) (are .1 .0 .1) (𝓣 .C) (𝓣 .Λ) (are .0)))
+      (λ κs qs bounds a g are. via 𝓤 _ (fst∗ 𝓤 _ (emp 𝓤)) (walk 𝓤 H A W mem run (κs .0) (qs .0) (a .0) (a .1 .0) (are .1 .0 .1) (𝓣 .C)
+      (𝓣 .Λ) (are .0)))
 
   meets : Meets 𝓤 H A f.signature (WpFn 𝓤 H (𝓣 .C) (𝓣 .Λ) code.function) (f.spec 𝓤 H A mem run)
   meets =
-      walk-meets 𝓤 H A f.ended stayed W (goes-spent-slice 𝓤 H A W 1 (0 ∷ []) tt (plain (λ _. u8)), (goes-none 𝓤 H A W 1 (λ _. usize) yes (λ κs x f. refl), tt)) (f.clauses 𝓤 H A mem run)
+      walk-meets 𝓤 H A f.ended stayed W (
+        goes-spent-slice 𝓤 H A W 1 (0 ∷ []) tt (plain (λ _. u8)),
+        (goes-none 𝓤 H A W 1 (λ _. usize) yes (λ κs x f. refl), tt),
+      ) (f.clauses 𝓤 H A mem run)
       (WpFn 𝓤 H (𝓣 .C) (𝓣 .Λ) code.function) (WpFn-mono 𝓤 H (W .laws) 𝓣 code.function) walks
 
 pub new-spec : {M : Type 1} → stated.statement M
