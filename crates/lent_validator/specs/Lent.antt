@@ -1,6 +1,5 @@
 -- What a check on a validator that is lent answers and leaves (document 01, "Verdict", refusal 7, and "the validator lent and updated where
--- it
--- stands").
+-- it stands").
 use Prim.Native.Nat.{ℕ}
 use mathlib.Core.Path.{_≡_}
 use mathlib.Core.List.{List}
@@ -12,10 +11,9 @@ use Rattle.validators.specs.declared.Verdict.{Verdict}
 use Rattle.validators.specs.Verdict.{answerOf, answered, textOf, validatorAfter}
 
 -- The contract of a check of the header `h` on the validator `v`, which is lent, with the buffer `l`: `r` is the verdict, `w` is what it
--- leaves
--- in the validator, and `m` what in the buffer.
-pub record ChecksLent (v : RdhCruSanityValidator) (h : RdhCru) (l : List ℕ) (r : Verdict) (w : RdhCruSanityValidator) (m : List ℕ) : Type
-    0 where
+-- leaves in the validator, and `m` what in the buffer.
+pub record ChecksLent (v : RdhCruSanityValidator) (h : RdhCru) (l : List ℕ) (r : Verdict)
+    (w : RdhCruSanityValidator) (m : List ℕ) : Type 0 where
   pub verdict : answerOf r ≡ answered v h (length l)
   pub validator : w ≡ validatorAfter v h (length l)
   pub leaves : m ≡ overwritten (textOf v h) l

@@ -1,7 +1,6 @@
 -- The calls of a writer's functions as steps of a walk. A walk holds a writer that it knows by what it is and not by its machine value: a
--- call
--- takes what the writer owns, with its lifetime's token, and gives the next writer, of which it says that it is the one before with a text
--- more.
+-- call takes what the writer owns, with its lifetime's token, and gives the next writer, of which it says that it is the one before with a
+-- text more.
 use mathlib.Core.Path.{_≡_, refl, sym, ap, subst}
 use Prim.Native.Nat.{ℕ, _<_, _^_}
 use mathlib.Core.List.{List, [], _∷_}

@@ -1,6 +1,5 @@
 -- A call that is lent a writer's buffer: the borrow of lifetime κ is lent on for a lifetime of the call's own, and is there again at the
--- list
--- that the callee left. `calls-lent` is the whole of it as one step of a walk.
+-- list that the callee left. `calls-lent` is the whole of it as one step of a walk.
 use mathlib.Core.Path.{_≡_, sym, ap, subst}
 use Prim.Native.Nat.{ℕ}
 use mathlib.Core.List.{List, [], _∷_}

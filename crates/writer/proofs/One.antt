@@ -1,6 +1,5 @@
 -- The walk of a function that writes a text made of one number: `function`, which takes a writer apart, calls a function on buffer and
--- count,
--- and puts the writer together again. It meets its contract, `clauses`, if the callee meets `put-clauses`.
+-- count, and puts the writer together again. It meets its contract, `clauses`, if the callee meets `put-clauses`.
 use mathlib.Core.Path.{_≡_, refl, ap}
 use Prim.Native.Nat.{ℕ, _<_, _^_}
 use mathlib.Core.List.{[], _∷_, List}

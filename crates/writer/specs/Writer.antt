@@ -12,7 +12,6 @@ abbrev pub begun : RefT (List ℕ) → ℕ → TextWriter
 begun x n = record { buf = x; count = n }
 
 -- The writer once the text `t` is written: the same borrow, in which the bytes of `t` that fit stand behind those written before, and a
--- count of
--- the whole text, whether it fits or not. (`at-last x l` is the reference `x` when its list is `l`.)
+-- count of the whole text, whether it fits or not. (`at-last x l` is the reference `x` when its list is `l`.)
 abbrev pub extended : TextWriter → List ℕ → TextWriter
 extended w t = record { buf = at-last (w .buf) (sets (now (w .buf)) (w .count) t); count = min (w .count + length t) lastPlace }

@@ -1,6 +1,5 @@
 -- The validator stands in a local, which is lent to `sanity_check` for a lifetime of the call's own; then it is there again, as the check
--- left
--- it, and goes into the reply.
+-- left it, and goes into the reply.
 use mathlib.Core.Path.{_≡_, refl, ap, subst}
 use Prim.Native.Nat.{ℕ}
 use mathlib.Core.List.{[], _∷_, List}
