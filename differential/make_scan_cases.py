@@ -493,12 +493,12 @@ def settings():
 
 def at_random():
     title("single calls at random")
-    some_calls(random.Random("stored"), 60)
+    some_calls(random.Random("stored"), 40)
 
 
-STORED = (end_of_recording, offset_of_a_first_header, offset_of_a_later_header, memory_size, fee_ids_full, unusable, nearly_unusable, open_load,
-          refused_in_a_load, initial_mark, undone, wanted, cut, without_stats, offset_and_memory, windows, counts, payload_sum, places, positions,
-          lengths, sizes, settings, at_random)
+STORED = (end_of_recording, offset_of_a_first_header, offset_of_a_later_header, memory_size, fee_ids_full, unusable, nearly_unusable,
+          open_load, refused_in_a_load, initial_mark, undone, wanted, cut, without_stats, offset_and_memory, windows, counts, payload_sum,
+          places, positions, lengths, sizes, settings, at_random)
 
 
 # Single calls at random.
@@ -530,7 +530,7 @@ def some_state(rng, recording):
         return mostly(rng.choice([0, 0, 5, FULL, FULL - 1, FULL - 8]), FULL + 1)
 
     base = rng.choice([0, 0, 0, 1000, LIMIT - len(recording)])
-    links = mostly(rng.choice([[], [1], [2, 1], [3, 2, 1], rng.sample(range(256), 256)]), [1, 1], [1, 2, 3, 2])
+    links = mostly(rng.choice([[], [1], [2, 1], [3, 2, 1]]), [1, 1], [1, 2, 3, 2], rng.sample(range(256), 256))
     fees = rng.choice([[], [7], [1, 7], [0x502A, 0x522A, 1], [7, 7, 7, 7], UNUSED])
     state = dict(
         place=base + rng.choice([0, 0, 0, rng.randrange(len(recording) + 70)]), position=mostly(near(rng, 640), near(rng, LIMIT)),

@@ -1,58 +1,67 @@
-// The kinds of lines.
+// The kinds of lines, as numbers: in the order in which they are told apart.
 use case_lines::words;
 
-pub(crate) enum Kind {
-    Recording,
-    Bytes,
-    Repeat,
-    Settings,
-    State,
-    Links,
-    FeeIds,
-    Examine,
-    Load,
-    Scan,
-    None,
-}
+pub(crate) const NO_CASE: u8 = 0;
 
-pub(crate) fn kind_of(line: &[u8]) -> Kind {
+pub(crate) const RECORDING: u8 = 1;
+
+pub(crate) const BYTES: u8 = 2;
+
+pub(crate) const REPEAT: u8 = 3;
+
+pub(crate) const SETTINGS: u8 = 4;
+
+pub(crate) const STATE: u8 = 5;
+
+pub(crate) const LINKS: u8 = 6;
+
+pub(crate) const FEE_IDS: u8 = 7;
+
+// Up to here they set up, and have no answer.
+pub(crate) const EXAMINE: u8 = 8;
+
+pub(crate) const LOAD: u8 = 9;
+
+pub(crate) const SCAN: u8 = 10;
+
+pub(crate) fn kind_of(line: &[u8]) -> u8 {
     if words::fits_keys(
         line,
         b"scan link=1- fee=2- stave=2- skip=f stats=f more=8 loads=8- window=8 places=8 length=8- back=1 brief=f",
     ) {
-        return Kind::Scan;
+        return SCAN;
     }
     if words::fits(line, b"bytes x") {
-        return Kind::Bytes;
+        return BYTES;
     }
     if words::fits(line, b"recording") {
-        return Kind::Recording;
+        return RECORDING;
     }
     if words::fits(line, b"repeat 4") {
-        return Kind::Repeat;
+        return REPEAT;
     }
     single(line)
 }
 
 // The same of the lines that have to do with single calls.
-fn single(line: &[u8]) -> Kind {
-    if words::fits_keys(line, b"settings link=1- fee=2- stave=2- skip=f stats=f") {
-        return Kind::Settings;
-    }
-    if words::fits(line, b"state 8 8 8- 4 4 4") {
-        return Kind::State;
-    }
-    if words::fits(line, b"links 8 1*") {
-        return Kind::Links;
-    }
-    if words::fits(line, b"fees 8 8 2*") {
-        return Kind::FeeIds;
+fn single(line: &[u8]) -> u8 {
+    if words::fits(line, b"load 8 8 f 8") {
+        return LOAD;
     }
     if words::fits(line, b"examine 8 8 f 8") {
-        return Kind::Examine;
+        return EXAMINE;
     }
-    if words::fits(line, b"load 8 8 f 8") {
-        return Kind::Load;
+    if words::fits(line, b"state 8 8 8- 4 4 4") {
+        return STATE;
     }
-    Kind::None
+    if words::fits(line, b"links 8 1*") {
+        return LINKS;
+    }
+    if words::fits(line, b"fees 8 8 2*") {
+        return FEE_IDS;
+    }
+    if words::fits_keys(line, b"settings link=1- fee=2- stave=2- skip=f stats=f") {
+        return SETTINGS;
+    }
+    NO_CASE
 }

@@ -42,6 +42,13 @@ struct Scan {
 
 // What is kept after a scan of the recording, with its loads and the counts printed. Links, FEE list and window are its own.
 pub(crate) fn answer(line: &[u8], kept: Kept, recording: &[u8], out: &mut [u8]) -> Kept {
+    let at = scan_all(line, kept, recording, out);
+    let mut kept = kept;
+    kept.at = at;
+    kept
+}
+
+fn scan_all(line: &[u8], kept: Kept, recording: &[u8], out: &mut [u8]) -> usize {
     let mut links = [0u16; 256];
     let mut fee_ids = [0u16; 4096];
     let mut buffer = [0u8; 66000];
@@ -61,7 +68,7 @@ pub(crate) fn answer(line: &[u8], kept: Kept, recording: &[u8], out: &mut [u8]) 
     );
     let progress = scan.progress;
     let n = numbers::of_progress(progress, [0; 32]);
-    crate::with_at(kept, forms::form(b" counts W X Y\n .\n", n, out, scan.at))
+    forms::form(b" counts W X Y\n .\n", n, out, scan.at)
 }
 
 fn places(line: &[u8]) -> usize

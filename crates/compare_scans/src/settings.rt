@@ -1,5 +1,6 @@
 // The lines that set up a call: recording, settings, state, links and FEE list.
 use crate::Kept;
+use crate::kinds;
 use case_lines::least;
 use case_lines::words;
 use case_lines::words::Parsed;
@@ -13,36 +14,65 @@ use scan_cdp::Position;
 use scan_cdp::Progress;
 use scan_cdp::Settings;
 
-pub(crate) fn with_recording(kept: Kept, length: usize, times: u32) -> Kept {
+// What is kept after a line that sets up.
+pub(crate) fn set_up(
+    kind: u8,
+    line: &[u8],
+    kept: Kept,
+    links: &mut [u16],
+    fee_ids: &mut [u16],
+) -> Kept {
+    let kept = set_numbers(kind, line, kept);
+    let kept = set_links(kind, line, kept, links);
+    set_fee_ids(kind, line, kept, fee_ids)
+}
+
+fn set_numbers(kind: u8, line: &[u8], kept: Kept) -> Kept {
+    match kind {
+        kinds::RECORDING => with_recording(kept, 0, 1),
+        kinds::REPEAT => with_recording(kept, kept.length, words::number32(words::word(line, 1))),
+        kinds::SETTINGS => with_settings(line, kept),
+        kinds::STATE => with_state(line, kept),
+        _ => kept,
+    }
+}
+
+fn with_recording(kept: Kept, length: usize, times: u32) -> Kept {
     let mut kept = kept;
     kept.length = length;
     kept.times = times;
     kept
 }
 
-pub(crate) fn with_settings(line: &[u8], kept: Kept) -> Kept {
+fn with_settings(line: &[u8], kept: Kept) -> Kept {
     let mut kept = kept;
     let set = settings(line);
     kept.set = set;
     kept
 }
 
-pub(crate) fn with_state(line: &[u8], kept: Kept) -> Kept {
+fn with_state(line: &[u8], kept: Kept) -> Kept {
     let mut kept = kept;
     let progress = stated(line, kept.progress.links_used, kept.progress.fee_ids_used);
     kept.progress = progress;
     kept
 }
 
-pub(crate) fn with_links(line: &[u8], kept: Kept, links: &mut [u16]) -> Kept {
+fn set_links(kind: u8, line: &[u8], kept: Kept, links: &mut [u16]) -> Kept {
     let mut kept = kept;
+    if kind != kinds::LINKS {
+        return kept;
+    }
     kept.progress.links_used = words::number(words::word(line, 1)) as usize;
     list(line, 2, links);
     kept
 }
 
-pub(crate) fn with_fee_ids(line: &[u8], kept: Kept, fee_ids: &mut [u16]) -> Kept {
+fn set_fee_ids(kind: u8, line: &[u8], kept: Kept, fee_ids: &mut [u16]) -> Kept {
     let mut kept = kept;
+    if kind != kinds::FEE_IDS {
+        return kept;
+    }
     kept.places = least(words::number(words::word(line, 1)) as usize, fee_ids.len());
     kept.progress.fee_ids_used = words::number(words::word(line, 2)) as usize;
     list(line, 3, fee_ids);

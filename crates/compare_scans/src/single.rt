@@ -2,6 +2,7 @@
 use crate::Kept;
 use crate::windows::Window;
 use case_lines::least;
+use case_lines::reply;
 use case_lines::words;
 use scan_calls::Reply;
 use scan_calls::forms;
@@ -25,7 +26,7 @@ pub(crate) fn answer(
     let start = 0;
     let places = least(kept.places, fee_ids.len());
     if bytes.len() != window.length {
-        return crate::no_case(kept, out);
+        return no_case(kept, out);
     }
     called(
         is_load,
@@ -36,6 +37,12 @@ pub(crate) fn answer(
         &mut fee_ids[start..places],
         out,
     )
+}
+
+fn no_case(kept: Kept, out: &mut [u8]) -> Kept {
+    let mut kept = kept;
+    kept.at = reply::no_case(out, kept.at);
+    kept
 }
 
 // How a line lends its window: FIRST LENGTH LAST.
