@@ -69,9 +69,11 @@ fn set_fee_ids(kind: u8, line: &[u8], kept: Kept, fee_ids: &mut [u16]) -> Kept {
     if kind != kinds::FEE_IDS {
         return kept;
     }
-    kept.places = least(words::number(words::word(line, 1)) as usize, fee_ids.len());
+    let start = 0;
+    let places = least(words::number(words::word(line, 1)) as usize, fee_ids.len());
+    list(line, 3, &mut fee_ids[start..places]);
+    kept.places = places;
     kept.progress.fee_ids_used = words::number(words::word(line, 2)) as usize;
-    list(line, 3, fee_ids);
     kept
 }
 

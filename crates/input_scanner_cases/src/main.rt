@@ -14,9 +14,9 @@ struct Reading {
 
 fn main() {
     let mut input = [0u8; 8192];
-    let mut recording = [0u8; 8192];
+    let mut recording = [0u8; 131072];
     let mut links = [0u16; 256];
-    let mut fee_ids = [0u16; 8];
+    let mut fee_ids = [0u16; 4096];
     let mut out = [0u8; 65536];
     answer_all(
         &mut input,

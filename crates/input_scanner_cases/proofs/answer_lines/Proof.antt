@@ -6,7 +6,9 @@ use Rattle.input_scanner_cases.proofs.answer_lines.Statement.{statement
 use Rattle.input_scanner_cases.proofs.answer_lines.Tie as tie
 
 abbrev Inv-loop : tie.InvT-loop
-Inv-loop input₀ recording₀ links₀ fee-ids₀ out₀ reading₀ left₀ input recording links fee-ids out reading left = (length input ≡ length input₀) × (length recording ≡ length recording₀) × (length links ≡ length links₀) × (length fee-ids ≡ length fee-ids₀) × (length out ≡ length out₀)
+Inv-loop input₀ recording₀ links₀ fee-ids₀ out₀ reading₀ left₀ input recording links fee-ids out reading left =
+    (length input ≡ length input₀) × (length recording ≡ length recording₀) × (length links ≡ length links₀) ×
+    (length fee-ids ≡ length fee-ids₀) × (length out ≡ length out₀)
 
 abbrev μ-loop : tie.MeasureT-loop
 μ-loop input₀ recording₀ links₀ fee-ids₀ out₀ reading₀ left₀ input recording links fee-ids out reading left = left

@@ -6,7 +6,8 @@ use Rattle.whole_scans.proofs.load_all.Statement.{statement}
 use Rattle.whole_scans.proofs.load_all.Tie as tie
 
 abbrev Inv-loop : tie.InvT-loop
-Inv-loop plan recording links₀ fee-ids₀ buffer₀ out₀ scan₀ left₀ links fee-ids buffer out scan left = (length links ≡ length links₀) × (length fee-ids ≡ length fee-ids₀) × (length buffer ≡ length buffer₀) × (length out ≡ length out₀)
+Inv-loop plan recording links₀ fee-ids₀ buffer₀ out₀ scan₀ left₀ links fee-ids buffer out scan left =
+    (length links ≡ length links₀) × (length fee-ids ≡ length fee-ids₀) × (length buffer ≡ length buffer₀) × (length out ≡ length out₀)
 
 abbrev μ-loop : tie.MeasureT-loop
 μ-loop plan recording links₀ fee-ids₀ buffer₀ out₀ scan₀ left₀ links fee-ids buffer out scan left = left
