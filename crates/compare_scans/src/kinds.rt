@@ -1,11 +1,11 @@
-// The kinds of lines, as numbers: in the order in which they are told apart.
+// The kinds of lines, as numbers: what is no case, and bytes; other lines that set up, from `RECORDING` to `FEE_IDS`; calls and scans.
 use case_lines::words;
 
 pub(crate) const NO_CASE: u8 = 0;
 
-pub(crate) const RECORDING: u8 = 1;
+pub(crate) const BYTES: u8 = 1;
 
-pub(crate) const BYTES: u8 = 2;
+pub(crate) const RECORDING: u8 = 2;
 
 pub(crate) const REPEAT: u8 = 3;
 
@@ -17,7 +17,6 @@ pub(crate) const LINKS: u8 = 6;
 
 pub(crate) const FEE_IDS: u8 = 7;
 
-// Up to here they set up, and have no answer.
 pub(crate) const EXAMINE: u8 = 8;
 
 pub(crate) const LOAD: u8 = 9;

@@ -2,11 +2,8 @@
 // What is kept between two lines is a small struct by value and three lent buffers: the recording, the links and the FEE list. No contract
 // can say what is printed, so these functions promise only that they are safe and end; what they print is held to stored answers.
 mod kinds;
-mod marks;
-mod scans;
 mod settings;
 mod single;
-mod windows;
 
 use case_lines::least;
 use case_lines::reply;
@@ -26,7 +23,7 @@ pub struct Kept {
 
 // Before the first line: no recording, a new scan with no filter, and no FEE places.
 pub fn begun() -> Kept {
-    let set = settings::settings(b"");
+    let set = whole_scans::settings::settings(b"");
     let progress = settings::stated(b"", 0, 0);
     Kept {
         at: 0,
@@ -60,7 +57,7 @@ pub fn answer(
         return settings::set_up(kind, line, kept, links, fee_ids);
     }
     if kind == kinds::SCAN {
-        return scans::answer(line, kept, recording, out);
+        return scan(line, kept, recording, out);
     }
     single::answer(
         kind == kinds::LOAD,
@@ -71,6 +68,14 @@ pub fn answer(
         fee_ids,
         out,
     )
+}
+
+fn scan(line: &[u8], kept: Kept, recording: &[u8], out: &mut [u8]) -> Kept {
+    let mut kept = kept;
+    let start = 0;
+    let end = least(kept.length, recording.len());
+    kept.at = whole_scans::answer(line, &recording[start..end], kept.times, out, kept.at);
+    kept
 }
 
 // Puts bytes at the end of the recording. Those that there is no room for are no case; nor are any behind a repetition, since only what is

@@ -4,15 +4,11 @@ use crate::kinds;
 use case_lines::least;
 use case_lines::words;
 use case_lines::words::Parsed;
-use filter::FilterOpt;
-use filter::Option8;
-use filter::Option16;
 use scan_cdp::BytePlace;
 use scan_cdp::Counts;
 use scan_cdp::OpenLoad;
 use scan_cdp::Position;
 use scan_cdp::Progress;
-use scan_cdp::Settings;
 
 // What is kept after a line that sets up.
 pub(crate) fn set_up(
@@ -46,7 +42,7 @@ fn with_recording(kept: Kept, length: usize, times: u32) -> Kept {
 
 fn with_settings(line: &[u8], kept: Kept) -> Kept {
     let mut kept = kept;
-    let set = settings(line);
+    let set = whole_scans::settings::settings(line);
     kept.set = set;
     kept
 }
@@ -85,37 +81,6 @@ fn list(line: &[u8], from: usize, places: &mut [u16]) {
     while i < places.len() {
         places[i] = words::number16(words::word(line, std::num::wrapping_add_usize(from, i)));
         i += 1;
-    }
-}
-
-// The settings that a line names. What it leaves out is not set.
-pub(crate) fn settings(line: &[u8]) -> Settings {
-    let filter_link = option8(words::value(line, b"link="));
-    let filter_fee = option16(words::value(line, b"fee="));
-    let filter_its_stave = option16(words::value(line, b"stave="));
-    let filter = FilterOpt {
-        filter_link,
-        filter_fee,
-        filter_its_stave,
-    };
-    Settings {
-        filter,
-        skip_payload: words::is_one(words::value(line, b"skip=")),
-        stats: words::is_one(words::value(line, b"stats=")),
-    }
-}
-
-fn option8(word: &[u8]) -> Option8 {
-    match words::decimal(word) {
-        Parsed::Number(_) => Option8::Some(words::number8(word)),
-        Parsed::None => Option8::None,
-    }
-}
-
-fn option16(word: &[u8]) -> Option16 {
-    match words::decimal(word) {
-        Parsed::Number(_) => Option16::Some(words::number16(word)),
-        Parsed::None => Option16::None,
     }
 }
 

@@ -1,6 +1,5 @@
 // Single calls: one examination or one load, with settings, state, lists and window as the lines before said.
 use crate::Kept;
-use crate::windows::Window;
 use case_lines::least;
 use case_lines::reply;
 use case_lines::words;
@@ -21,7 +20,7 @@ pub(crate) fn answer(
     fee_ids: &mut [u16],
     out: &mut [u8],
 ) -> Kept {
-    let window = window(line);
+    let window = window_of(line);
     let bytes = bytes(line, recording, kept.length);
     let start = 0;
     let places = least(kept.places, fee_ids.len());
@@ -45,8 +44,15 @@ fn no_case(kept: Kept, out: &mut [u8]) -> Kept {
     kept
 }
 
-// How a line lends its window: FIRST LENGTH LAST.
-fn window(line: &[u8]) -> Window {
+// How a window is lent: its first place, how many bytes it has, and whether it is the last.
+struct Window {
+    first: u64,
+    length: usize,
+    last: bool,
+}
+
+// The window of a line: FIRST LENGTH LAST.
+fn window_of(line: &[u8]) -> Window {
     Window {
         first: words::number(words::word(line, 1)),
         length: words::number(words::word(line, 2)) as usize,

@@ -1,9 +1,10 @@
-// Whole scans: loads over the recording, through windows that are lent as the loads want them.
+// Whole scans: loads over a recording, through windows that are lent as the loads want them. What they answer is printed as the lines of
+// `scan_calls`, so these functions too promise only that they are safe and end.
+mod marks;
+pub mod settings;
+mod windows;
+
 ghost use Prim.Native.Nat.{_≤_};
-use crate::Kept;
-use crate::marks;
-use crate::settings;
-use crate::windows;
 use crate::windows::Reading;
 use crate::windows::Window;
 use case_lines::least;
@@ -17,6 +18,7 @@ use scan_calls::replies;
 use scan_cdp::LoadMarks;
 use scan_cdp::Progress;
 use scan_cdp::Settings;
+use scan_cdp::State;
 
 // What a line asks for.
 struct Plan {
@@ -40,27 +42,19 @@ struct Scan {
     size: u64,
 }
 
-// What is kept after a scan of the recording, with its loads and the counts printed. Links, FEE list and window are its own.
-pub(crate) fn answer(line: &[u8], kept: Kept, recording: &[u8], out: &mut [u8]) -> Kept {
-    let at = scan_all(line, kept, recording, out);
-    let mut kept = kept;
-    kept.at = at;
-    kept
-}
-
-fn scan_all(line: &[u8], kept: Kept, recording: &[u8], out: &mut [u8]) -> usize {
+// Prints the loads and the counts of a scan of the recording, which is repeated so many times. Links, FEE list and window are its own.
+pub fn answer(line: &[u8], recording: &[u8], times: u32, out: &mut [u8], at: usize) -> usize {
     let mut links = [0u16; 256];
     let mut fee_ids = [0u16; 4096];
     let mut buffer = [0u8; 66000];
     let start = 0;
-    let length = least(kept.length, recording.len());
     let places = places(line);
-    let plan = planned(line, length as u64, kept.times);
-    let begun = begun(line, kept.at);
+    let plan = planned(line, recording.len() as u64, times);
+    let begun = begun(line, at);
     let scan = load_all(
         plan,
         begun,
-        &recording[start..length],
+        recording,
         &mut links,
         &mut fee_ids[start..places],
         &mut buffer,
@@ -102,7 +96,7 @@ fn number_or(word: &[u8], otherwise: u64) -> u64 {
 // A scan before its first load. It wants its first window.
 fn begun(line: &[u8], at: usize) -> Scan {
     let loads = number_or(words::value(line, b"loads="), u64::MAX);
-    let progress = settings::stated(b"", 0, 0);
+    let progress = State::new().progress;
     let marks = marks::none();
     Scan {
         at,

@@ -2,8 +2,8 @@
 use mathlib.Core.Path.{_≡_}
 use borrow.Author.Needs.{needs}
 use lib.ListN.{length}
-use Rattle.compare_scans.proofs.scans.load_all.Statement.{statement}
-use Rattle.compare_scans.proofs.scans.load_all.Tie as tie
+use Rattle.whole_scans.proofs.load_all.Statement.{statement}
+use Rattle.whole_scans.proofs.load_all.Tie as tie
 
 abbrev Inv-loop : tie.InvT-loop
 Inv-loop plan recording links₀ fee-ids₀ buffer₀ out₀ scan₀ left₀ links fee-ids buffer out scan left = (length links ≡ length links₀) × (length fee-ids ≡ length fee-ids₀) × (length buffer ≡ length buffer₀) × (length out ≡ length out₀)

@@ -3,8 +3,8 @@ use mathlib.Core.Path.{_≡_}
 use Prim.Native.Nat.{_-_}
 use borrow.Author.Needs.{needs}
 use lib.ListN.{length}
-use Rattle.compare_scans.proofs.windows.fill.Statement.{statement}
-use Rattle.compare_scans.proofs.windows.fill.Tie as tie
+use Rattle.whole_scans.proofs.windows.fill.Statement.{statement}
+use Rattle.whole_scans.proofs.windows.fill.Tie as tie
 
 abbrev Inv-loop : tie.InvT-loop
 Inv-loop recording place buffer₀ count next₀ i₀ buffer next i = length buffer ≡ length buffer₀

@@ -3,8 +3,8 @@ use Prim.Native.Nat.{_≤_}
 use native.Mathlib.Nat.{mul-le-mul-left}
 use native.Mathlib.Omega.{arith}
 use borrow.Author.Needs.{needs}
-use Rattle.compare_scans.proofs.windows.product.Statement.{statement}
-use Rattle.compare_scans.proofs.windows.product.Tie as tie
+use Rattle.whole_scans.proofs.windows.product.Statement.{statement}
+use Rattle.whole_scans.proofs.windows.product.Tie as tie
 
 mul-result : tie.Need-mul-result
 mul-result c =
