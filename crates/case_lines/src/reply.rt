@@ -61,30 +61,6 @@ pub fn numbers(out: &mut [u8], at: usize, numbers: &[u64]) -> usize {
     next
 }
 
-// A number that may be below zero, in decimal, with a blank before it.
-pub fn signed(out: &mut [u8], at: usize, n: i32) -> usize {
-    if n < 0 {
-        let at = text(out, at, b" -");
-        return decimal(out, at, natural(negative(n)));
-    }
-    number(out, at, natural(n))
-}
-
-fn natural(n: i32) -> u64 {
-    if n < 0 {
-        return 0;
-    }
-    n as u64
-}
-
-// The negative of a number that is not the least.
-fn negative(n: i32) -> i32 {
-    if n < -0x7FFF_FFFF {
-        return 0;
-    }
-    0 - n
-}
-
 // Each byte as two hexadecimal digits.
 pub fn bytes(out: &mut [u8], at: usize, s: &[u8]) -> usize {
     let mut next = at;
@@ -133,15 +109,6 @@ pub fn line_with_two(out: &mut [u8], at: usize, label: &[u8], a: u64, b: u64) ->
     let at = text(out, at, label);
     let at = number(out, at, a);
     let at = number(out, at, b);
-    byte(out, at, b'\n')
-}
-
-// A line: a text and three numbers.
-pub fn line_with_three(out: &mut [u8], at: usize, label: &[u8], a: u64, b: u64, c: u64) -> usize {
-    let at = text(out, at, label);
-    let at = number(out, at, a);
-    let at = number(out, at, b);
-    let at = number(out, at, c);
     byte(out, at, b'\n')
 }
 
