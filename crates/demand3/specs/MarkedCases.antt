@@ -13,8 +13,8 @@ use Rattle.filter.specs.declared.FilterTarget.the-variants.{ItsLayerStave}
 use Rattle.filter.specs.declared.Option8.the-variants as Option8
 use Rattle.filter.specs.declared.Option16.the-variants as Option16
 use Rattle.filter.specs.FilterLaws.{other-uplink-taken}
-use Rattle.its.specs.StaveNames.{Answered}
-use Rattle.its.specs.StaveNameLaws.{L9-70-given}
+use Rattle.its_names.specs.StaveNames.{Answered}
+use Rattle.its_names.specs.StaveNameLaws.{L9-70-given}
 use Rattle.rdh.specs.Subfields.{layerOf, staveOf}
 use Rattle.serde_rdh.specs.Layout.{decoded, header, span}
 use Rattle.sanity.specs.Tests.{allTests, anyFails, cruTests, feeIdTests, rdh0Tests, rdh1Tests, rdh2Tests, rdh3Tests, sound}

@@ -1,4 +1,3 @@
 pub mod Replies
 pub mod Stepping
 pub mod SteppingLaws
-pub mod LoadLaws

@@ -5,11 +5,8 @@ use Rattle.scan_cdp.specs.Answers.{answerOf, loadAnswer}
 use Rattle.scan_cdp.specs.Loads.{Loaded}
 use Rattle.scan_cdp.specs.Steps.{Entry}
 use Rattle.scan_cdp.specs.declared.Part.{Part}
-use Rattle.scan_cdp.specs.declared.Progress.{Progress}
-use Rattle.scan_cdp.specs.declared.State.{State}
 use Rattle.input_scanner.specs.declared.Examination.{Examination}
 use Rattle.input_scanner.specs.declared.Load.{Load}
-use Rattle.input_scanner.specs.declared.step.Step.{Step}
 
 -- An examination's reply, and the FEE ids that it leaves.
 abbrev pub examinationOf : Examination → List ℕ → Entry Part
@@ -18,11 +15,3 @@ examinationOf r feeIds = record { answer = answerOf (r .answer); marks = r .mark
 -- A load's reply, and the FEE ids that it leaves.
 abbrev pub loadOf : Load → List ℕ → Loaded Part
 loadOf r feeIds = record { answer = loadAnswer (r .answer); marks = r .marks; state = r .state; feeIds = feeIds }
-
--- The state, whose links stand apart while a call goes on.
-abbrev pub withLinks : Progress → List ℕ → State
-withLinks p links = record { progress = p; links = links }
-
-abbrev pub stepOf : Step → List ℕ → List ℕ → Entry Part
-stepOf r links feeIds =
-    record { answer = answerOf (r .answer); marks = r .marks; state = withLinks (r .progress) links; feeIds = feeIds }

@@ -1,17 +1,14 @@
 -- What the parts of an examination reply, said by the definitions of the step.
 use Prim.Native.Nat.{ℕ, _+_, _≤_, _<_, _^_}
-use mathlib.Core.Bool.{Bool, not, _||_, _&&_}
+use mathlib.Core.Bool.{Bool, not, _&&_}
 use mathlib.Core.Path.{_≡_}
-use mathlib.Core.List.{List, []}
-use lib.Dec.{eqb, ltb}
-use lib.ListN.{length}
+use mathlib.Core.List.{List}
 use Rattle.basis.specs.Pick.{pick}
-use Rattle.basis.specs.Refusals.{Answer, gives, refuses}
+use Rattle.basis.specs.Refusals.{gives}
 use Rattle.rdh.specs.declared.rdh_cru.RdhCru.{RdhCru}
-use Rattle.stats.specs.Counts.{fullCount}
-use Rattle.scan_cdp.specs.Answers.{Found, answerOf, wants}
+use Rattle.scan_cdp.specs.Answers.{answerOf, wants}
 use Rattle.scan_cdp.specs.Moves.{readSize}
-use Rattle.scan_cdp.specs.Steps.{Entry, answerIn, cut, ended, limit, lists, marksOf, noMarks, placesListed, progressAfter, startOf, turn, unchanged, usedListed}
+use Rattle.scan_cdp.specs.Steps.{Entry, answerIn, cut, limit, lists, marksOf, placesListed, progressAfter, startOf, turn, unchanged, usedListed}
 use Rattle.scan_cdp.specs.Turns.{feeId, payloadSize}
 use Rattle.scan_cdp.specs.Windows.{partAt}
 use Rattle.scan_cdp.specs.declared.Part.{Part}
@@ -19,27 +16,7 @@ use Rattle.scan_cdp.specs.declared.Progress.{Progress}
 use Rattle.scan_cdp.specs.declared.Settings.{Settings}
 use Rattle.scan_cdp.specs.declared.State.{State}
 use Rattle.scan_cdp.specs.declared.Turn.{Turn}
-use Rattle.input_scanner.specs.Replies.{stepOf, withLinks}
-use Rattle.input_scanner.specs.declared.step.Step.{Step}
-
--- Refusal 6 by state and list, but for a link that is listed twice.
-unfoldable pub numbersUnusable : Progress → ℕ → ℕ → Bool
-numbersUnusable p links feeIds =
-    ltb limit (p .place .0) || ltb limit (p .position .0)
-    || ltb links (p .«links_used») || ltb feeIds (p .«fee_ids_used»)
-    || eqb (p .counts .seen) fullCount || eqb (p .counts .filtered) fullCount || eqb (p .counts .payload) fullCount
-
--- A reply that changes nothing.
-pub record Unchanged (p : Progress) (a : Answer (Found Part)) (r : Step) : Type 0 where
-  pub answer : answerOf (r .answer) ≡ a
-  pub marks : r .marks ≡ noMarks
-  pub progress : r .progress ≡ p
-
--- A reply where there are fewer than 64 bytes at the byte place, whatever links and FEE ids are listed.
-abbrev pub Lacking : Progress → ℕ → Bool → Step → Type 0
-Lacking p end last r =
-    (links feeIds : List ℕ) → stepOf r links feeIds
-    ≡ pick last (ended (withLinks p links) feeIds end) (unchanged (withLinks p links) feeIds (gives (wants (p .place) 64)))
+use Rattle.scan_window.specs.declared.Step.{Step}
 
 -- A header's bytes start at `start` in a window, with so many bytes from there on.
 pub record HeaderHere (p : Progress) (start left : ℕ) : Type 0 where

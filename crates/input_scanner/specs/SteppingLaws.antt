@@ -1,22 +1,18 @@
 -- Laws of what the parts of an examination reply.
 use Prim.Native.Nat.{ℕ, _+_, _-_, _≤_, _<_, min}
-use mathlib.Core.Bool.{Bool, true, false, not, _||_, _&&_, or-false, or-true}
-use mathlib.Core.Path.{_≡_, refl, ap, sym, subst, _∙_}
-use mathlib.Core.List.{List, []}
+use mathlib.Core.Bool.{Bool, true, false, not, _&&_}
+use mathlib.Core.Path.{_≡_, ap, sym, subst, _∙_}
+use mathlib.Core.List.{List}
 use native.Mathlib.Omega.{arith}
-use borrow.Author.Tests.{ltb-false}
 use lib.IntN.{ℤ}
-use lib.Dec.{eqb, ltb}
-use lib.ListN.{length, drop, take, length-drop}
-use Rattle.basis.specs.Pick.{neither, on, off, pick}
-use Rattle.basis.specs.Refusals.{Answer, gives, refuses}
+use lib.ListN.{length, drop, length-drop}
+use Rattle.basis.specs.Pick.{on, off, pick}
+use Rattle.basis.specs.Refusals.{gives, refuses}
 use Rattle.rdh.specs.declared.rdh_cru.RdhCru.{RdhCru}
 use Rattle.serde_rdh.specs.Layout.{decode, decoded}
 use Rattle.serde_rdh.specs.LayoutLaws.{decode-given, decode-refused}
-use Rattle.stats.specs.Counts.{fullCount}
-use Rattle.stats.specs.Listed.{placesAfter, twice, usedAfter}
-use Rattle.scan_cdp.specs.Answers.{Found, wants}
-use Rattle.scan_cdp.specs.Steps.{Entry, answerIn, cut, ended, entryOf, limit, lists, marksOf, placesListed, progressAfter, startOf, turn, unchanged, unusable, usedListed}
+use Rattle.scan_cdp.specs.Answers.{wants}
+use Rattle.scan_cdp.specs.Steps.{Entry, answerIn, cut, ended, entryOf, lists, marksOf, placesListed, progressAfter, startOf, turn, unchanged, unusable, usedListed}
 use Rattle.scan_cdp.specs.Turns.{feeId, payloadSize}
 use Rattle.scan_cdp.specs.Moves.{readSize}
 use Rattle.scan_cdp.specs.Windows.{examined, located, outside, partAt, shown}
@@ -26,15 +22,10 @@ use Rattle.scan_cdp.specs.declared.Progress.{Progress}
 use Rattle.scan_cdp.specs.declared.Settings.{Settings}
 use Rattle.scan_cdp.specs.declared.State.{State}
 use Rattle.scan_cdp.specs.declared.Turn.{Turn}
-use Rattle.input_scanner.specs.Replies.{stepOf, withLinks}
-use Rattle.input_scanner.specs.Stepping.{Stepped, Unchanged, headerStepped, numbersUnusable}
-use Rattle.input_scanner.specs.declared.step.Step.{Step}
-
--- A reply that changes nothing, with the links and FEE ids as they were.
-pub nothing-changed : {p : Progress} {a : Answer (Found Part)} {r : Step} → Unchanged p a r → (links feeIds : List ℕ)
-    → stepOf r links feeIds ≡ unchanged (withLinks p links) feeIds a
-nothing-changed u links feeIds =
-    λ i. record { answer = u .answer i; marks = u .marks i; state = withLinks (u .progress i) links; feeIds = feeIds }
+use Rattle.scan_window.specs.Stepping.{stepOf, withLinks}
+use Rattle.scan_window.specs.SteppingLaws.{inside}
+use Rattle.scan_window.specs.declared.Step.{Step}
+use Rattle.input_scanner.specs.Stepping.{Stepped, headerStepped}
 
 -- ---- a header
 
@@ -71,16 +62,6 @@ module _ (set : Settings) (p : Progress) (links feeIds : List ℕ) (h : RdhCru) 
         feeIds = fee-places i;
       })
       ∙ sym (off _ _ e)
-
--- What is not counted is not listed; what is counted is.
-pub not-listed : (due : Bool) (x used : ℕ) (l : List ℕ) → due ≡ false → (used ≡ usedListed due x used l) × (l ≡ placesListed due x used l)
-unfolding usedListed placesListed
-not-listed due x used l e = (sym (off _ _ e), sym (off _ _ e))
-
-pub listed : (due : Bool) (x used : ℕ) (l : List ℕ) → due ≡ true
-    → (usedAfter x used l ≡ usedListed due x used l) × (placesAfter x used l ≡ placesListed due x used l)
-unfolding usedListed placesListed
-listed due x used l e = (sym (on _ _ e), sym (on _ _ e))
 
 -- ---- a header on a window
 
@@ -119,40 +100,6 @@ stepped-on-window set s feeIds rest start begin end last begins ends =
     })
 
 -- ---- the whole
-
--- That no link is listed twice leaves the numbers of refusal 6.
-pub numbers-alone : (p : Progress) (links feeIds : List ℕ) → twice (take (p .«links_used») links) ≡ false
-    → unusable (withLinks p links) feeIds ≡ numbersUnusable p (length links) (length feeIds)
-unfolding unusable numbersUnusable
-numbers-alone p links feeIds once =
-    let counts : Bool → Bool =
-    λ b. b || eqb (p .counts .seen) fullCount || eqb (p .counts .filtered) fullCount || eqb (p .counts .payload) fullCount in
-    let others =
-    ltb limit (p .place .0) || ltb limit (p .position .0) || ltb (length links) (p .«links_used») || ltb (length feeIds) (p .«fee_ids_used») in
-    ap (λ (b : Bool). counts (others || b)) once ∙ ap counts (or-false others)
-
--- A link that is listed twice is refusal 6.
-pub twice-unusable : (s : State) (feeIds : List ℕ) → twice (take (s .progress .«links_used») (s .links)) ≡ true → unusable s feeIds ≡ true
-unfolding unusable
-twice-unusable s feeIds e =
-    let p = s .progress in
-    let counts : Bool → Bool =
-    λ b. b || eqb (p .counts .seen) fullCount || eqb (p .counts .filtered) fullCount || eqb (p .counts .payload) fullCount in
-    let others =
-    ltb limit (p .place .0) || ltb limit (p .position .0)
-    || ltb (length (s .links)) (p .«links_used») || ltb (length feeIds) (p .«fee_ids_used») in
-    ap (λ (b : Bool). counts (others || b)) e ∙ ap counts (or-true others)
-
--- A window that is not refused starts at or before the byte place, and ends within the limit.
-pub record Inside (place first size : ℕ) : Type 0 where
-  pub starts : first ≤ place
-  pub ends : first + size ≤ limit
-
-pub inside : (place first size : ℕ) → outside place first size ≡ false → Inside place first size
-unfolding outside
-inside place first size e =
-    let (starts, ends) = neither (ltb place first) (ltb limit (first + size)) e in
-    record { starts = ltb-false place first starts; ends = ltb-false limit (first + size) ends }
 
 module _ (set : Settings) (p : Progress) (links feeIds w : List ℕ) (first : ℕ) (last : Bool)
     (usable : unusable (withLinks p links) feeIds ≡ false) (in-window : outside (p .place .0) first (length w) ≡ false)

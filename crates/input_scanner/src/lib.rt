@@ -1,12 +1,11 @@
-// The scan of a recording through a window: one examination, the load above it, and the payload as a part of the window.
+// The scan of a recording through a window: one examination, and the load above it.
 ghost use mathlib.Core.Path.{_≡_};
-ghost use Prim.Native.Nat.{_+_, _≤_, min};
+ghost use Prim.Native.Nat.{_+_, _≤_};
 ghost use Rattle.basis.specs.Pick.{pick};
 ghost use Rattle.scan_cdp.specs.Steps.{limit};
-ghost use Rattle.scan_cdp.specs.Windows.{bytesAt, examined};
+ghost use Rattle.scan_cdp.specs.Windows.{examined};
 ghost use Rattle.scan_cdp.specs.Loads.{eitherInitial, loaded, noLoadMarks, together};
 ghost use Rattle.input_scanner.specs.Replies.{examinationOf, loadOf};
-use crate::step::no_marks;
 use crate::step::take_step;
 use scan_cdp::BytePlace;
 use scan_cdp::Examined;
@@ -14,10 +13,10 @@ use scan_cdp::Initial;
 use scan_cdp::LoadCdp;
 use scan_cdp::LoadMarks;
 use scan_cdp::Marks;
-use scan_cdp::Part;
 use scan_cdp::Refusal;
 use scan_cdp::Settings;
 use scan_cdp::State;
+use scan_window::no_marks;
 
 mod step;
 
@@ -156,19 +155,4 @@ fn raised(count: u64, carry: bool) -> u64
         return count + 1;
     }
     count
-}
-
-// The bytes of a part of the window, as that of a packet's payload; as many as the window has of them.
-pub fn payload(window: &[u8], part: Part) -> &[u8]
-    ensures { λ r. ⌜ now r ≡ bytesAt (now (window .entry)) part ⌝ }
-{
-    let start = least(part.start, window.len());
-    let end = start + least(part.length, window.len() - start);
-    &window[start..end]
-}
-
-fn least(a: usize, b: usize) -> usize
-    ensures { λ r. ⌜ r ≡ min a b ⌝ }
-{
-    if a < b { a } else { b }
 }

@@ -8,8 +8,8 @@ use lib.ListN.{length, length-append, length-map}
 use Rattle.basis.specs.Pick.{pick}
 use Rattle.rdh.specs.declared.rdh_cru.RdhCru.{RdhCru}
 use Rattle.text.specs.Ascii.{ascii}
-use Rattle.text.specs.Numerals.{decimal, glyph, numeral}
-use Rattle.text.specs.NumeralLaws.{numeral-last, numeral-room, numeral-step}
+use Rattle.text_numbers.specs.Numerals.{decimal, glyph, numeral}
+use Rattle.text_numbers.specs.NumeralLaws.{numeral-last, numeral-room, numeral-step}
 use Rattle.text.specs.Put.{Put}
 use Rattle.text.specs.PutLaws.{and-then, respelled}
 use Rattle.row.specs.Row.{rowText}

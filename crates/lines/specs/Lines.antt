@@ -8,7 +8,7 @@ use lib.Dec.{ltb}
 use Rattle.basis.specs.Pick.{pick}
 use Rattle.rdh.specs.declared.rdh_cru.RdhCru.{RdhCru}
 use Rattle.text.specs.Ascii.{ascii}
-use Rattle.text.specs.Numerals.{decimal, numeral}
+use Rattle.text_numbers.specs.Numerals.{decimal, numeral}
 use Rattle.row.specs.Row.{rowText}
 use Rattle.validators.specs.Verdict.{soundTo, textOf}
 use Rattle.validators.specs.declared.RdhCruSanityValidator.{RdhCruSanityValidator}

@@ -1,7 +1,7 @@
--- What one load adds to the listing (document 01, "At the edges"): "no filter, payload read, statistics on, no version, no ITS [..] A cut
--- payload adds nothing. The first refusal ends it."
+-- What one load adds to the listing: its lines, whether it is a packet that is not sound, and the validator after it. The settings are those
+-- of the caller; the listing program's stand here too. A payload that is cut adds nothing.
 use Prim.Native.Nat.{ℕ, _≤_}
-use mathlib.Core.Bool.{true, false}
+use mathlib.Core.Bool.{Bool, true, false, not}
 use mathlib.Core.Path.{_≡_}
 use mathlib.Core.List.{List, []}
 use lib.ListN.{length}
@@ -10,7 +10,7 @@ use Rattle.rdh.specs.declared.rdh_cru.RdhCru.{RdhCru}
 use Rattle.filter.specs.declared.Option8.the-variants as Eight
 use Rattle.filter.specs.declared.Option16.the-variants as Sixteen
 use Rattle.text.specs.Put.{Put}
-use Rattle.validators.specs.Verdict.{settledBy}
+use Rattle.validators.specs.Verdict.{settledBy, soundTo}
 use Rattle.validators.specs.declared.HeaderId.the-variants.{NotSettled}
 use Rattle.validators.specs.declared.RdhCruSanityValidator.{RdhCruSanityValidator}
 use Rattle.scan_cdp.specs.Answers.{Found, handed, passed, refusal, wants}
@@ -23,7 +23,7 @@ use Rattle.lines.specs.Lines.{lastLines, packetLines, room}
 use Rattle.lines.specs.declared.Listed.{Listed}
 use Rattle.lines.specs.declared.PacketLines.{PacketLines}
 
--- "no filter, payload read, statistics on"
+-- The listing program's settings: no filter, the payload is read, statistics are on.
 abbrev pub listSettings : Settings
 listSettings =
     record {
@@ -32,7 +32,7 @@ listSettings =
       stats = true;
     }
 
--- "no version, no ITS"
+-- A validator with no version and no ITS, which has settled nothing.
 abbrev pub newValidator : RdhCruSanityValidator
 newValidator = record { «header_id» = NotSettled; its = false }
 
@@ -58,11 +58,19 @@ validatorOf v (gives (handed h payload position)) = settledBy v h
 validatorOf v (gives (wants place size)) = v
 validatorOf v (refuses number values) = v
 
+-- Whether it is a packet that is not sound to the validator.
+abbrev pub unsoundIn : RdhCruSanityValidator → Answer (Found Part) → Bool
+unsoundIn v (gives passed) = false
+unsoundIn v (gives (handed h payload position)) = not (soundTo v h)
+unsoundIn v (gives (wants place size)) = false
+unsoundIn v (refuses number values) = false
+
 -- The contract of putting a packet's lines into the buffer `out` at a place: `r` is the reply, and `left` what is left in the buffer. The room
 -- that lines need is bounded.
 pub record Packs (v : RdhCruSanityValidator) (position : ℕ) (h : RdhCru) (out : List ℕ) (at : ℕ) (r : PacketLines) (left : List ℕ)
     : Type 0 where
   pub validator : r .validator ≡ settledBy v h
+  pub unsound : r .unsound ≡ not (soundTo v h)
   pub lines : Put out at (packetLines v position h) left (r .at)
   pub short : length (packetLines v position h) ≤ room
 
@@ -71,5 +79,6 @@ pub record Packs (v : RdhCruSanityValidator) (position : ℕ) (h : RdhCru) (out 
 pub record Lists (l : Loaded Part) (v : RdhCruSanityValidator) (out : List ℕ) (at : ℕ) (r : Listed) (feeIds left : List ℕ) : Type 0 where
   pub load : loadOf (r .load) feeIds ≡ l
   pub validator : r .validator ≡ validatorOf v (l .answer)
+  pub unsound : r .unsound ≡ unsoundIn v (l .answer)
   pub lines : Put out at (linesOf v (l .answer) l) left (r .at)
   pub short : length (linesOf v (l .answer) l) ≤ room

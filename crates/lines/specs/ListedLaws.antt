@@ -1,6 +1,6 @@
 -- Laws of what a load adds to the listing, and of a verdict's line.
 use Prim.Native.Nat.{ℕ, _≤_, _<_, _^_}
-use mathlib.Core.Bool.{Bool, true, false}
+use mathlib.Core.Bool.{Bool, true, false, not}
 use mathlib.Core.Path.{_≡_, refl, ap, sym, _∙_}
 use mathlib.Core.List.{List, [], _++_}
 use native.Mathlib.Omega.{arith}
@@ -28,15 +28,16 @@ use Rattle.scan_cdp.specs.declared.Refusal.{Refusal}
 use Rattle.scan_cdp.specs.declared.Refusal.the-variants.{End, OffsetToNext, MemorySize, FeeIdsFull, NegativeSkip, Unusable}
 use Rattle.input_scanner.specs.Replies.{loadOf}
 use Rattle.lines.specs.Lines.{lastLines, lineAt, room, verdictLine}
-use Rattle.lines.specs.Listed.{Lists, linesOf, numberOf, validatorOf}
+use Rattle.lines.specs.Listed.{Lists, linesOf, numberOf, unsoundIn, validatorOf}
 use Rattle.lines.specs.declared.Listed.{Listed}
 
 -- a call that answers by the load's own answer
 pub lists : (l : Loaded Part) (v : RdhCruSanityValidator) (out : List ℕ) (at : ℕ) (r : Listed) (feeIds left : List ℕ) (a : LoadCdp)
     → loadOf (r .load) feeIds ≡ l → r .load .answer ≡ a → r .validator ≡ validatorOf v (loadAnswer a)
+    → r .unsound ≡ unsoundIn v (loadAnswer a)
     → Put out at (linesOf v (loadAnswer a) (loadOf (r .load) feeIds)) left (r .at)
     → length (linesOf v (loadAnswer a) (loadOf (r .load) feeIds)) ≤ room → Lists l v out at r feeIds left
-lists l v out at r feeIds left a load is validator lines short =
+lists l v out at r feeIds left a load is validator unsound lines short =
     let answer : loadAnswer a ≡ l .answer = sym (ap (λ (b : LoadCdp). loadAnswer b) is) ∙ ap (λ (m : Loaded Part). m .answer) load in
     let same : linesOf v (loadAnswer a) (loadOf (r .load) feeIds) ≡ linesOf v (l .answer) l =
     ap (λ (b : Answer (Found Part)). linesOf v b (loadOf (r .load) feeIds)) answer
@@ -44,11 +45,12 @@ lists l v out at r feeIds left a load is validator lines short =
     record {
       load = load;
       validator = validator ∙ ap (λ (b : Answer (Found Part)). validatorOf v b) answer;
+      unsound = unsound ∙ ap (λ (b : Answer (Found Part)). unsoundIn v b) answer;
       lines = respelled same lines;
       short = omega (arith, ap length same, short);
     }
 
--- every refusal has the last lines, and leaves the validator
+-- every refusal has the last lines, leaves the validator, and is no packet that is not sound
 pub lines-refused : (v : RdhCruSanityValidator) (why : Refusal) (l : Loaded Part)
     → lastLines (l .state .progress .counts) (numberOf why) ≡ linesOf v (refusal why) l
 lines-refused v End l = refl
@@ -65,6 +67,14 @@ validator-refused v MemorySize = refl
 validator-refused v FeeIdsFull = refl
 validator-refused v NegativeSkip = refl
 validator-refused v Unusable = refl
+
+pub unsound-refused : (v : RdhCruSanityValidator) (why : Refusal) → false ≡ unsoundIn v (refusal why)
+unsound-refused v End = refl
+unsound-refused v (OffsetToNext distance position) = refl
+unsound-refused v MemorySize = refl
+unsound-refused v FeeIdsFull = refl
+unsound-refused v NegativeSkip = refl
+unsound-refused v Unusable = refl
 
 -- the verdict that an answer has, and the length of its text
 soundIn : Answer Judged → Bool
@@ -98,12 +108,26 @@ module _ (v : RdhCruSanityValidator) (h : RdhCru) (small : expectedId (v .«head
     unfolding validatorAfter
     checked = checks .validator ∙ on _ _ (le-leb _ _ enough)
 
-    -- a sound header has no line
-    pub sound-line : r .verdict ≡ Sound → verdictLine v position h ≡ []
-    unfolding verdictLine soundIn
-    sound-line is = on _ _ (sym (ap soundIn judged) ∙ ap (λ (x : Verdict). soundIn (answerOf x)) is)
+    -- a sound header is told to be one, and has no line
+    sound-to : r .verdict ≡ Sound → soundTo v h ≡ true
+    unfolding soundIn
+    sound-to is = sym (ap soundIn judged) ∙ ap (λ (x : Verdict). soundIn (answerOf x)) is
 
-    -- one that is not sound has the line with its text, which stands at the buffer's start
+    pub sound-told : r .verdict ≡ Sound → false ≡ not (soundTo v h)
+    sound-told is = sym (ap not (sound-to is))
+
+    pub sound-line : r .verdict ≡ Sound → verdictLine v position h ≡ []
+    unfolding verdictLine
+    sound-line is = on _ _ (sound-to is)
+
+    -- one that is not sound is told to be none, and has the line with its text, which stands at the buffer's start
+    flawed-to : (n : ℕ) → r .verdict ≡ NotSound n → soundTo v h ≡ false
+    unfolding soundIn
+    flawed-to n is = sym (ap soundIn judged) ∙ ap (λ (x : Verdict). soundIn (answerOf x)) is
+
+    pub flawed-told : (n : ℕ) → r .verdict ≡ NotSound n → true ≡ not (soundTo v h)
+    flawed-told n is = sym (ap not (flawed-to n is))
+
     flawed-length : (n : ℕ) → r .verdict ≡ NotSound n → n ≡ length (textOf v h)
     unfolding lengthIn
     flawed-length n is = sym (ap (λ (x : Verdict). lengthIn (answerOf x)) is) ∙ ap lengthIn judged
@@ -119,10 +143,8 @@ module _ (v : RdhCruSanityValidator) (h : RdhCru) (small : expectedId (v .«head
         ∙ take-append-seam (textOf v h) (drop (length (textOf v h)) l)
 
     pub flawed-line : (n : ℕ) → r .verdict ≡ NotSound n → lineAt position (take n m) ≡ verdictLine v position h
-    unfolding verdictLine soundIn
-    flawed-line n is =
-        ap (λ (t : List ℕ). lineAt position t) (text-there n (flawed-length n is))
-        ∙ sym (off _ _ (sym (ap soundIn judged) ∙ ap (λ (x : Verdict). soundIn (answerOf x)) is))
+    unfolding verdictLine
+    flawed-line n is = ap (λ (t : List ℕ). lineAt position t) (text-there n (flawed-length n is)) ∙ sym (off _ _ (flawed-to n is))
 
     -- a buffer of 512 bytes is never too short
     pub never-short : (n : ℕ) → r .verdict ≡ TooShort n → ⊥

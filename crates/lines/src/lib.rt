@@ -1,7 +1,8 @@
 // The listing: the lines of a packet, the last lines, and one load with its lines.
+ghost use mathlib.Core.Bool.{not};
 ghost use mathlib.Core.Path.{_≡_};
 ghost use Rattle.text.specs.Put.{Put};
-ghost use Rattle.validators.specs.Verdict.{settledBy};
+ghost use Rattle.validators.specs.Verdict.{settledBy, soundTo};
 ghost use Rattle.row.specs.Row.{rowText};
 ghost use Rattle.scan_cdp.specs.Loads.{loaded};
 ghost use Rattle.lines.specs.Lines.{countLine, lastLines, lineAt, verdictLine};
@@ -27,17 +28,19 @@ mod position;
 // So many bytes hold the lines of any packet, and the last lines.
 pub const ROOM: usize = 1024;
 
-// The lines of a packet, put: the validator for the next packet, and the place behind the lines.
+// The lines of a packet, put: the validator for the next packet, the place behind the lines, and whether the packet is not sound.
 pub struct PacketLines {
     pub validator: RdhCruSanityValidator,
     pub at: usize,
+    pub unsound: bool,
 }
 
-// A load, listed: its reply, the validator for the next packet, and the place behind the lines.
+// A load, listed: its reply, the validator for the next packet, the place behind the lines, and whether it is a packet that is not sound.
 pub struct Listed {
     pub load: Load,
     pub validator: RdhCruSanityValidator,
     pub at: usize,
+    pub unsound: bool,
 }
 
 // A validator with no version and no ITS, which has settled nothing.
@@ -50,8 +53,8 @@ pub fn new_validator() -> RdhCruSanityValidator
     }
 }
 
-// No filter, payload read, statistics on.
-fn settings() -> Settings
+// The listing program's settings: no filter, payload read, statistics on.
+pub fn list_settings() -> Settings
     ensures { λ r. ⌜ r ≡ listSettings ⌝ }
 {
     Settings {
@@ -67,6 +70,7 @@ fn settings() -> Settings
 
 // Loads the next packet and puts what the listing says of it: a packet's lines, or the last lines with a refusal, and nothing with a want.
 pub fn list_cdp(
+    set: Settings,
     state: State,
     validator: RdhCruSanityValidator,
     fee_ids: &mut [u16],
@@ -77,10 +81,10 @@ pub fn list_cdp(
     at: usize,
 ) -> Listed
     ensures { λ r. ⌜ Lists
-        (loaded listSettings state (now («fee_ids» .entry)) (now (window .entry)) (first .0) last)
+        (loaded set state (now («fee_ids» .entry)) (now (window .entry)) (first .0) last)
         validator (now (out .entry)) at r (now («fee_ids» .exit)) (now (out .exit)) ⌝ }
 {
-    let load = input_scanner::load_cdp(settings(), state, fee_ids, window, first, last);
+    let load = input_scanner::load_cdp(set, state, fee_ids, window, first, last);
     let answer = load.answer;
     match answer {
         LoadCdp::Packet(packet) => {
@@ -90,12 +94,14 @@ pub fn list_cdp(
                 load,
                 validator,
                 at: lines.at,
+                unsound: lines.unsound,
             }
         }
         LoadCdp::Want(_, _) => Listed {
             load,
             validator,
             at,
+            unsound: false,
         },
         LoadCdp::Refused(why) => {
             let counts = load.state.progress.counts;
@@ -104,6 +110,7 @@ pub fn list_cdp(
                 load,
                 validator,
                 at,
+                unsound: false,
             }
         }
     }
@@ -141,6 +148,7 @@ fn put_verdict_line(
     rdh: RdhCru,
 ) -> PacketLines
     ensures { λ r. ⌜ (r .validator ≡ settledBy validator rdh)
+        × (r .unsound ≡ not (soundTo validator rdh))
         × Put (now (out .entry)) at (verdictLine validator (position .0) rdh) (now (out .exit)) (r .at) ⌝ }
 {
     let mut verdict_text = [0u8; 512];
@@ -148,13 +156,25 @@ fn put_verdict_line(
     let verdict = check.verdict;
     let validator = check.validator;
     match verdict {
-        Verdict::Sound => PacketLines { validator, at },
+        Verdict::Sound => PacketLines {
+            validator,
+            at,
+            unsound: false,
+        },
         Verdict::NotSound(length) => {
             let start = 0;
             let at = put_line(out, at, position, &verdict_text[start..length]);
-            PacketLines { validator, at }
+            PacketLines {
+                validator,
+                at,
+                unsound: true,
+            }
         }
-        Verdict::TooShort(_) => PacketLines { validator, at },
+        Verdict::TooShort(_) => PacketLines {
+            validator,
+            at,
+            unsound: true,
+        },
     }
 }
 
@@ -183,7 +203,7 @@ fn put_count(out: &mut [u8], at: usize, name: &[u8], n: u64) -> usize
 {
     let at = text::put_bytes(out, at, name);
     let at = text::put_byte(out, at, b' ');
-    let at = text::put_decimal(out, at, n);
+    let at = text_numbers::put_decimal(out, at, n);
     text::put_byte(out, at, b'\n')
 }
 

@@ -2,7 +2,7 @@
 ghost use mathlib.Core.Path.{_≡_};
 ghost use mathlib.Core.List.{map};
 ghost use Prim.Native.Nat.{_<_};
-ghost use Rattle.text.specs.Numerals.{glyph, numeral};
+ghost use Rattle.text_numbers.specs.Numerals.{glyph, numeral};
 ghost use Rattle.text.specs.Put.{Put};
 ghost use Rattle.lines.specs.Lines.{positionText, upper};
 use scan_cdp::Position;

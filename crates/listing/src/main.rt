@@ -34,6 +34,7 @@ fn main() {
 fn list(buffer: &mut [u8], fee_ids: &mut [u16], out: &mut [u8])
     requires { ⌜ room ≤ length (now out) ⌝ }
 {
+    let set = lines::list_settings();
     let mut state = State::new();
     let mut validator = lines::new_validator();
     let mut held = window::empty();
@@ -47,7 +48,17 @@ fn list(buffer: &mut [u8], fee_ids: &mut [u16], out: &mut [u8])
         let start = 0;
         let end = held.length;
         let w = &buffer[start..end];
-        let listed = lines::list_cdp(state, validator, fee_ids, w, held.first, held.last, out, at);
+        let listed = lines::list_cdp(
+            set,
+            state,
+            validator,
+            fee_ids,
+            w,
+            held.first,
+            held.last,
+            out,
+            at,
+        );
         let load = listed.load;
         let answer = load.answer;
         used = listed.at;

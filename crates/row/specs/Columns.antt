@@ -4,7 +4,7 @@ use mathlib.Core.List.{List, _++_}
 use Rattle.rdh.specs.declared.rdh_cru.RdhCru.{RdhCru}
 use Rattle.rdh.specs.Subfields.{bcOf, dataFormatOf}
 use Rattle.text.specs.Ascii.{ascii}
-use Rattle.text.specs.Numerals.{decimal, hex, left}
+use Rattle.text_numbers.specs.Numerals.{decimal, hex, left}
 use Rattle.row.specs.declared.Columns.{Columns}
 
 unfoldable pub columnsOf : RdhCru → Columns

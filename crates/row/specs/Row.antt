@@ -8,7 +8,7 @@ use Rattle.rdh.specs.declared.rdh2.Rdh2.{Rdh2}
 use Rattle.rdh.specs.declared.rdh_cru.RdhCru.{RdhCru}
 use Rattle.rdh.specs.Subfields.{bcOf, dataFormatOf}
 use Rattle.text.specs.Ascii.{ascii}
-use Rattle.text.specs.Numerals.{decimal, hex, left}
+use Rattle.text_numbers.specs.Numerals.{decimal, hex, left}
 
 -- `Display for Rdh0`: "{:<6}{:<7}{:<7}{:<6}" of header ID, header size, FEE id and system id.
 unfoldable pub rdh0Text : Rdh0 → List ℕ

@@ -8,8 +8,8 @@ use Rattle.rdh.specs.declared.rdh_cru.RdhCru.{RdhCru}
 use Rattle.serde_rdh.specs.Layout.{InRange, span, value}
 use Rattle.serde_rdh.specs.Layout.Field.{header-id, header-size, fee-id, system-id, offset-new-packet, link-id, packet-counter, orbit, trigger-type, pages-counter, stop-bit, detector-field}
 use Rattle.rdh.specs.Subfields.{bcOf, dataFormatOf}
-use Rattle.text.specs.Numerals.{hex}
-use Rattle.text.specs.NumeralLaws.{decimal-column, hex-column, length-hex}
+use Rattle.text_numbers.specs.Numerals.{hex}
+use Rattle.text_numbers.specs.NumeralLaws.{decimal-column, hex-column, length-hex}
 use Rattle.row.specs.Columns.{columnsOf, columnsText}
 use Rattle.row.specs.Row.{rdh0Text, rdh1Text, rdh2Text, rowText}
 

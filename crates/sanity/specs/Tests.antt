@@ -15,7 +15,7 @@ use Rattle.rdh.specs.declared.rdh3.Rdh3.{Rdh3}
 use Rattle.rdh.specs.declared.rdh_cru.RdhCru.{RdhCru}
 use Rattle.rdh.specs.Subfields.{bcOf, bcReservedOf, dataFormatOf, dwOf, layerOf, staveOf}
 use Rattle.text.specs.Ascii.{ascii}
-use Rattle.text.specs.Numerals.{decimal, hex}
+use Rattle.text_numbers.specs.Numerals.{decimal, hex}
 
 -- A test: whether it fails, and the piece of text that then names the failure.
 pub record Test : Type 0 where

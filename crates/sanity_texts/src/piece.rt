@@ -2,7 +2,7 @@
 ghost use mathlib.Core.List.{[], _++_};
 ghost use Rattle.basis.specs.Pick.{pick};
 ghost use Rattle.text.specs.Ascii.{ascii};
-ghost use Rattle.text.specs.Numerals.{decimal, hex};
+ghost use Rattle.text_numbers.specs.Numerals.{decimal, hex};
 ghost use Rattle.text.specs.Put.{Put};
 
 // A label, a number in hexadecimal and a blank.
@@ -13,7 +13,7 @@ pub(crate) fn put_hex(out: &mut [u8], at: usize, fails: bool, label: &[u8], n: u
         return at;
     }
     let at = text::put_bytes(out, at, label);
-    let at = text::put_hex(out, at, n);
+    let at = text_numbers::put_hex(out, at, n);
     text::put_byte(out, at, b' ')
 }
 
@@ -25,6 +25,6 @@ pub(crate) fn put_decimal(out: &mut [u8], at: usize, fails: bool, label: &[u8], 
         return at;
     }
     let at = text::put_bytes(out, at, label);
-    let at = text::put_decimal(out, at, n);
+    let at = text_numbers::put_decimal(out, at, n);
     text::put_byte(out, at, b' ')
 }

@@ -5,7 +5,7 @@ ghost use mathlib.Core.List.{[], _++_};
 ghost use lib.Dec.{eqb};
 ghost use Rattle.basis.specs.Pick.{pick};
 ghost use Rattle.text.specs.Ascii.{ascii};
-ghost use Rattle.text.specs.Numerals.{decimal};
+ghost use Rattle.text_numbers.specs.Numerals.{decimal};
 ghost use Rattle.text.specs.Put.{Put};
 use crate::fee_id;
 use crate::piece;
@@ -64,9 +64,9 @@ fn put_header_id(out: &mut [u8], at: usize, expected: u8, header_id: u8) -> usiz
         return at;
     }
     let at = text::put_bytes(out, at, b"Header ID = ");
-    let at = text::put_decimal(out, at, header_id as u64);
+    let at = text_numbers::put_decimal(out, at, header_id as u64);
     let at = text::put_bytes(out, at, b" (expected ");
-    let at = text::put_decimal(out, at, expected as u64);
+    let at = text_numbers::put_decimal(out, at, expected as u64);
     text::put_bytes(out, at, b")")
 }
 

@@ -1,4 +1,5 @@
-// Counts at their edges, and searches through lists whose used part is empty, a part, all, or said to be more than there is.
+// Shows how the crate `stats` is used from Rattle: counts at their edges, and searches through lists whose used part is empty, a part, all,
+// or said to be more than there is.
 fn answer(b: bool) {
     if b {
         show::text(b" yes");

@@ -11,7 +11,6 @@ use lib.Seq.{sets, length-sets, sets-eq, set-out}
 use Rattle.basis.specs.Pick.{on, off}
 use Rattle.text.specs.declared.Written.{Written}
 use Rattle.text.specs.declared.Written.the-variants.{Text, TooShort}
-use Rattle.text.specs.Numerals.{left, right}
 use Rattle.text.specs.Put.{Put, lastPlace}
 use Rattle.text.specs.Written.{Writes, written, overwritten}
 
@@ -63,20 +62,6 @@ and-then {u = u} p q = and-then-if u p (λ _. refl) q
 -- the same text, written another way
 pub respelled : {l t u m : List ℕ} {i j : ℕ} → t ≡ u → Put l i t m j → Put l i u m j
 respelled {l = l} {m = m} {i = i} {j = j} e p = subst (λ (w : List ℕ). Put l i w m j) e p
-
--- a text, then the blanks that it lacks to a width
-pub padded-behind : {l t m n : List ℕ} {i j k lacks : ℕ} (width : ℕ) → Put l i t m j → lacks ≡ width - (j - i)
-    → Put m j (replicate lacks 32) n k → Put l i (left width t) n k
-unfolding left
-padded-behind {t = t} {i = i} {lacks = lacks} width p e q =
-    and-then-if (replicate (width - length t) 32) p
-    (λ within. let same : lacks ≡ width - length t = omega (arith, e, p .next) in ap (λ (x : ℕ). replicate x 32) same) q
-
--- the blanks that a text lacks to a width, then the text
-pub padded-before : {l t m n : List ℕ} {i j k lacks : ℕ} (width : ℕ) → lacks ≡ width - length t → Put l i (replicate lacks 32) m j
-    → Put m j t n k → Put l i (right width t) n k
-unfolding right
-padded-before {t = t} width e p q = and-then (respelled (ap (λ (x : ℕ). replicate x 32) e) p) q
 
 -- a text that is put into no buffer is measured
 pub measured : {t m : List ℕ} {j : ℕ} → Put [] 0 t m j → length t ≤ lastPlace → j ≡ length t

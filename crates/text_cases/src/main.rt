@@ -1,5 +1,5 @@
-// Texts put into buffers of many lengths at many places. Each line has the buffer, which held dots before, between brackets,
-// and the place that was given back.
+// Shows how the crate `text` is used from Rattle: texts put into buffers of many lengths at many places. Each line has the buffer, which
+// held dots before, between brackets, and the place that was given back.
 
 // What is put: a byte, a number of blanks, or a number, alone or with the width that it is padded to.
 enum Piece {
@@ -16,11 +16,11 @@ fn put(out: &mut [u8], at: usize, piece: Piece) -> usize {
     match piece {
         Piece::Byte(b) => text::put_byte(out, at, b),
         Piece::Blanks(n) => text::put_blanks(out, at, n),
-        Piece::Decimal(n) => text::put_decimal(out, at, n),
-        Piece::Hex(n) => text::put_hex(out, at, n),
-        Piece::DecimalLeft(n, width) => text::put_decimal_left(out, at, n, width),
-        Piece::HexLeft(n, width) => text::put_hex_left(out, at, n, width),
-        Piece::DecimalRight(n, width) => text::put_decimal_right(out, at, n, width),
+        Piece::Decimal(n) => text_numbers::put_decimal(out, at, n),
+        Piece::Hex(n) => text_numbers::put_hex(out, at, n),
+        Piece::DecimalLeft(n, width) => text_numbers::put_decimal_left(out, at, n, width),
+        Piece::HexLeft(n, width) => text_numbers::put_hex_left(out, at, n, width),
+        Piece::DecimalRight(n, width) => text_numbers::put_decimal_right(out, at, n, width),
     }
 }
 

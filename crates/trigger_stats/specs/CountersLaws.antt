@@ -1,8 +1,11 @@
 -- Laws of the counts: statistics are the same where their counts are, and every count is the number of words with its bit.
-use mathlib.Core.Path.{_≡_, refl}
+use mathlib.Core.Path.{_≡_, refl, ap, sym, _∙_}
 use mathlib.Core.List.{List, [], _∷_}
 use Prim.Native.Nat.{ℕ, _+_, _%_, _^_, _<_}
+use native.Mathlib.Numerals.{add-one}
 use native.Mathlib.Omega.{arith}
+use lib.ListN.{drop, getD, length}
+use lib.Seq.{drop-cons}
 use Rattle.basis.specs.Bits.{bits}
 use Rattle.trigger_stats.specs.declared.TriggerStats.{TriggerStats}
 use Rattle.trigger_stats.specs.Counters.{Counter, bitOf, count, stats, counted, collected, uncounted, withBit}
@@ -41,6 +44,14 @@ pub count-counted : (s : TriggerStats) (word : ℕ) (k : Counter)
     → count k (counted s word) ≡ (count k s + bits (bitOf k) (bitOf k) word) % 2 ^ 32
 unfolding counted
 count-counted s word k = count-stats _ k
+
+-- to count the words from a place on is to count the one there, and then those behind it
+pub collected-at : (s : TriggerStats) (words : List ℕ) (i : ℕ) → i < length words
+    → collected s (drop i words) ≡ collected (counted s (getD words i 0)) (drop (i + 1) words)
+unfolding collected
+collected-at s words i below =
+    ap (collected s) (drop-cons words i 0 below)
+    ∙ ap (λ (k : ℕ). collected (counted s (getD words i 0)) (drop k words)) (sym (add-one i))
 
 -- "Each of the 20 trigger counts is the number of words with its bit, modulo 2^32", from any start
 pub counts-words : (k : Counter) (s : TriggerStats) (words : List ℕ) → count k s < 2 ^ 32

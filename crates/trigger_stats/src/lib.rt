@@ -1,6 +1,10 @@
 // Trigger statistics: how many trigger words had each trigger bit.
+ghost use mathlib.Core.List.{map};
 ghost use mathlib.Core.Path.{_≡_};
-ghost use Rattle.trigger_stats.specs.Counters.{counted, uncounted};
+ghost use Rattle.trigger_stats.specs.Counters.{collected, count, counted, counters, uncounted};
+
+// How many counters there are.
+pub const COUNTERS: usize = 20;
 
 // The counts of the trigger bits, bit 0 first. Bits 15 to 26 are spare and have none.
 pub struct TriggerStats {
@@ -101,5 +105,46 @@ impl TriggerStats {
             tpc_rst: std::num::wrapping_add_u32(self.tpc_rst, trigger / 0x4000_0000 % 2),
             tof: std::num::wrapping_add_u32(self.tof, trigger / 0x8000_0000 % 2),
         }
+    }
+
+    // Counts trigger words, one after the other.
+    pub fn collect_all(self, words: &[u32]) -> TriggerStats
+        ensures { λ r. ⌜ r ≡ collected self (now (words .entry)) ⌝ }
+    {
+        let mut stats = self;
+        let mut i = 0;
+        while i < words.len() {
+            stats = stats.collect_stats(words[i]);
+            i += 1;
+        }
+        stats
+    }
+
+    // The counts in the order of the fields.
+    pub fn counts(self) -> [u32; COUNTERS]
+        ensures { λ r. ⌜ r ≡ map (λ k. count k self) counters ⌝ }
+    {
+        [
+            self.orbit,
+            self.hb,
+            self.hbr,
+            self.hc,
+            self.pht,
+            self.pp,
+            self.cal,
+            self.sot,
+            self.eot,
+            self.soc,
+            self.eoc,
+            self.tf,
+            self.fe_rst,
+            self.rt,
+            self.rs,
+            self.lhc_gap1,
+            self.lhc_gap2,
+            self.tpc_sync,
+            self.tpc_rst,
+            self.tof,
+        ]
     }
 }

@@ -4,3 +4,4 @@ pub mod TriggerList
 pub mod TriggerListLaws
 pub mod Mismatches
 pub mod MismatchesLaws
+pub mod TableLaws

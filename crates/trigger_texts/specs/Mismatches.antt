@@ -8,7 +8,7 @@ use lib.Dec.{eqb}
 use Rattle.basis.specs.Pick.{pick}
 use Rattle.text.specs.declared.Written.{Written}
 use Rattle.text.specs.Ascii.{ascii}
-use Rattle.text.specs.Numerals.{decimal}
+use Rattle.text_numbers.specs.Numerals.{decimal}
 use Rattle.text.specs.Written.{Writes}
 use Rattle.trigger_stats.specs.declared.TriggerStats.{TriggerStats}
 use Rattle.trigger_stats.specs.Counters.{Counter, bitOf, count}

@@ -5,8 +5,8 @@ use mathlib.Core.List.{List}
 use native.Mathlib.Omega.{arith}
 use lib.ListN.{length, length-append, length-replicate, replicate}
 use Rattle.text.specs.Ascii.{ascii}
-use Rattle.text.specs.Numerals.{decimal, right}
-use Rattle.text.specs.NumeralLaws.{length-numeral}
+use Rattle.text_numbers.specs.Numerals.{decimal, right}
+use Rattle.text_numbers.specs.NumeralLaws.{length-numeral}
 use Rattle.trigger_stats.specs.declared.TriggerStats.{TriggerStats}
 use Rattle.trigger_stats.specs.Counters.{Counter, InRange, count, counters}
 use Rattle.trigger_texts.specs.Lines.{inOrder}

@@ -6,9 +6,10 @@ use rdh::rdh_cru::RdhCru;
 use scan_cdp::OpenLoad;
 use scan_cdp::Settings;
 use scan_cdp::Turn;
+use serde_rdh::RDH_CRU_SIZE_BYTES;
 
-// The length of a header, which is the least offset and the least memory size.
-const RDH_SIZE: u16 = 64;
+// The length of a header, which is the least offset and the least memory size, in the width of those fields.
+pub const RDH_SIZE: u16 = RDH_CRU_SIZE_BYTES as u16;
 
 // The largest offset: 10 KB behind the header.
 const MAX_OFFSET: u16 = 10_064;

@@ -12,8 +12,8 @@ use Rattle.serde_rdh.specs.Layout.{InRange, span, value}
 use Rattle.serde_rdh.specs.Layout.Field.{header-id, header-size, priority-bit, system-id, rdh0-reserved0, bc-reserved0, trigger-type, stop-bit, rdh2-reserved0, detector-field, rdh3-reserved0, cruid-dw}
 use Rattle.rdh.specs.Subfields.{bcOf, bcReservedOf, dataFormatOf, dwOf, layerOf, staveOf}
 use Rattle.text.specs.Ascii.{ascii}
-use Rattle.text.specs.Numerals.{decimal, hex, numeral}
-use Rattle.text.specs.NumeralLaws.{length-hex, length-numeral}
+use Rattle.text_numbers.specs.Numerals.{decimal, hex, numeral}
+use Rattle.text_numbers.specs.NumeralLaws.{length-hex, length-numeral}
 use Rattle.sanity.specs.Tests.{Test, anyFails, hexPiece, decimalPiece, pieces, section, feeIdTests, rdh0Tests, rdh1Tests, rdh2Tests, rdh3Tests, cruTests, failureText}
 
 length-pick : (b : Bool) (t : List ℕ) → length (pick b t []) ≤ length t

@@ -4,7 +4,7 @@ ghost use mathlib.Core.Path.{_≡_};
 ghost use mathlib.Core.List.{[], _∷_};
 ghost use Prim.Native.Nat.{min, suc};
 ghost use lib.ListN.{length, take};
-ghost use Rattle.text.specs.Numerals.{decimal, hex, left, right};
+ghost use Rattle.text_numbers.specs.Numerals.{decimal, hex, left, right};
 ghost use Rattle.writer.specs.Writer.{begun, extended};
 
 pub struct TextWriter<'a> {
@@ -56,7 +56,7 @@ impl<'a> TextWriter<'a> {
         ensures { λ r. ⌜ r ≡ extended (self .entry) (decimal n) ⌝ }
     {
         let count = self.count;
-        let next = text::put_decimal(&mut *self.buf, count, n);
+        let next = text_numbers::put_decimal(&mut *self.buf, count, n);
         TextWriter {
             buf: self.buf,
             count: next,
@@ -68,7 +68,7 @@ impl<'a> TextWriter<'a> {
         ensures { λ r. ⌜ r ≡ extended (self .entry) (hex n) ⌝ }
     {
         let count = self.count;
-        let next = text::put_hex(&mut *self.buf, count, n);
+        let next = text_numbers::put_hex(&mut *self.buf, count, n);
         TextWriter {
             buf: self.buf,
             count: next,
@@ -80,7 +80,7 @@ impl<'a> TextWriter<'a> {
         ensures { λ r. ⌜ r ≡ extended (self .entry) (left width (decimal n)) ⌝ }
     {
         let count = self.count;
-        let next = text::put_decimal_left(&mut *self.buf, count, n, width);
+        let next = text_numbers::put_decimal_left(&mut *self.buf, count, n, width);
         TextWriter {
             buf: self.buf,
             count: next,
@@ -92,7 +92,7 @@ impl<'a> TextWriter<'a> {
         ensures { λ r. ⌜ r ≡ extended (self .entry) (left width (hex n)) ⌝ }
     {
         let count = self.count;
-        let next = text::put_hex_left(&mut *self.buf, count, n, width);
+        let next = text_numbers::put_hex_left(&mut *self.buf, count, n, width);
         TextWriter {
             buf: self.buf,
             count: next,
@@ -104,7 +104,7 @@ impl<'a> TextWriter<'a> {
         ensures { λ r. ⌜ r ≡ extended (self .entry) (right width (decimal n)) ⌝ }
     {
         let count = self.count;
-        let next = text::put_decimal_right(&mut *self.buf, count, n, width);
+        let next = text_numbers::put_decimal_right(&mut *self.buf, count, n, width);
         TextWriter {
             buf: self.buf,
             count: next,

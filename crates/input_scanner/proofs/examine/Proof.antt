@@ -6,7 +6,7 @@ use lib.ListN.{length}
 use Rattle.basis.specs.Refusals.{refuses}
 use Rattle.scan_cdp.specs.Windows.{outside}
 use Rattle.scan_laws.specs.WindowLaws.{refused-6}
-use Rattle.input_scanner.specs.SteppingLaws.{twice-unusable}
+use Rattle.scan_window.specs.SteppingLaws.{twice-unusable}
 use borrow.Author.Needs.{needs}
 use Rattle.input_scanner.proofs.examine.Statement.{statement}
 use Rattle.input_scanner.proofs.examine.Tie as tie

@@ -10,9 +10,9 @@ use Rattle.scan_cdp.specs.Answers.{answerOf}
 use Rattle.scan_cdp.specs.Loads.{isPassed, loaded, loadedFrom}
 use Rattle.scan_cdp.specs.declared.Examined.{Examined}
 use Rattle.scan_cdp.specs.declared.LoadMarks.{LoadMarks}
-use Rattle.input_scanner.specs.LoadLaws.{LoadTurn, load-begins, load-ends, load-fee-ids, load-goes-on, load-passes, load-refused, not-passed}
-use Rattle.input_scanner.specs.Replies.{withLinks}
-use Rattle.input_scanner.specs.SteppingLaws.{twice-unusable}
+use Rattle.scan_laws.specs.LoadTurnLaws.{LoadTurn, load-begins, load-ends, load-fee-ids, load-goes-on, load-passes, load-refused, not-passed}
+use Rattle.scan_window.specs.Stepping.{withLinks}
+use Rattle.scan_window.specs.SteppingLaws.{twice-unusable}
 use borrow.Author.Needs.{needs}
 use Rattle.input_scanner.proofs.load_cdp.Statement.{statement}
 use Rattle.input_scanner.proofs.load_cdp.Tie as tie

@@ -1,20 +1,15 @@
 -- The lines of each answer: a packet, a want and a refusal.
-use mathlib.Core.Path.{ap, refl, _∙_}
+use mathlib.Core.Path.{ap, refl}
 use native.Mathlib.Omega.{arith}
 use Rattle.text.specs.PutLaws.{put-nothing, respelled}
-use Rattle.scan_cdp.specs.Loads.{loaded}
-use Rattle.scan_cdp.specs.declared.Settings.{Settings}
 use Rattle.input_scanner.specs.Replies.{loadOf}
 use lib.ListN.{length}
 use Rattle.lines.specs.Listed.{numberOf}
 use Rattle.lines.specs.LineLaws.{short-last}
-use Rattle.lines.specs.ListedLaws.{lines-refused, lists, validator-refused}
+use Rattle.lines.specs.ListedLaws.{lines-refused, lists, unsound-refused, validator-refused}
 use borrow.Author.Needs.{needs}
 use Rattle.lines.proofs.list_cdp.Statement.{statement}
 use Rattle.lines.proofs.list_cdp.Tie as tie
-
-settings-requires : tie.Need-settings-requires
-settings-requires c κs = search needs
 
 load-cdp-requires : tie.Need-load-cdp-requires
 load-cdp-requires c κs = search needs
@@ -43,18 +38,14 @@ same-length-2 c = search needs
 returns : tie.Need-returns
 returns c =
     let packed = c .before .before .before in
+    let packs = packed .put-packet .ensures in
     let told = packed .before .before .before in
     let replied = told .before .before .before .before in
-    let set-up = replied .before .before in
-    let start = set-up .before .before .before .before in
+    let start = replied .before .before .before .before .before in
     let args = start .args in
     let load = replied .load-cdp in
-    let is =
-    load .ensures
-    ∙ ap (λ (set : Settings). loaded set (args .state) (args .fee-ids .now) (args .window .now) (args .first .0) (args .last))
-    (set-up .settings .ensures) in
-    lists _ (args .validator) (args .out .now) (args .at) _ _ _ _ is (told .answer .given .1) (packed .put-packet .ensures .validator)
-    (packed .put-packet .ensures .lines) (packed .put-packet .ensures .short)
+    lists _ (args .validator) (args .out .now) (args .at) _ _ _ _ (load .ensures) (told .answer .given .1) (packs .validator)
+    (packs .unsound) (packs .lines) (packs .short)
 
 same-length-3 : tie.Need-same-length-3
 same-length-3 c = search needs
@@ -62,16 +53,11 @@ same-length-3 c = search needs
 returns-2 : tie.Need-returns-2
 returns-2 c =
     let replied = c .before .before .before .before in
-    let set-up = replied .before .before in
-    let start = set-up .before .before .before .before in
+    let start = replied .before .before .before .before .before in
     let args = start .args in
     let load = replied .load-cdp in
-    let is =
-    load .ensures
-    ∙ ap (λ (set : Settings). loaded set (args .state) (args .fee-ids .now) (args .window .now) (args .first .0) (args .last))
-    (set-up .settings .ensures) in
-    lists _ (args .validator) (args .out .now) (args .at) _ _ _ _ is (c .enum-told .given .1) refl
-    (put-nothing _ _ (omega (arith, start .good .1 .1 .1 .1 .1 .1 .0)) (omega (arith, start .good .1 .1 .1 .1 .1 .1 .1 .0))) (omega arith)
+    lists _ (args .validator) (args .out .now) (args .at) _ _ _ _ (load .ensures) (c .enum-told .given .1) refl refl
+    (put-nothing _ _ (omega (arith, start .good .1 .1 .1 .1 .1 .1 .1 .0)) (omega (arith, start .good .1 .1 .1 .1 .1 .1 .1 .1 .0))) (omega arith)
 
 same-length-4 : tie.Need-same-length-4
 same-length-4 c = search needs
@@ -83,17 +69,13 @@ returns-3 : tie.Need-returns-3
 returns-3 c =
     let told = c .before .before .before .before .before .before in
     let replied = told .before .before .before .before in
-    let set-up = replied .before .before in
-    let start = set-up .before .before .before .before in
+    let start = replied .before .before .before .before .before in
     let args = start .args in
     let load = replied .load-cdp in
-    let is =
-    load .ensures
-    ∙ ap (λ (set : Settings). loaded set (args .state) (args .fee-ids .now) (args .window .now) (args .first .0) (args .last))
-    (set-up .settings .ensures) in
     let why = told .answer2 .given .0 .0 in
     let lines = lines-refused (args .validator) why (loadOf (load .result) (load .last .1 .1 .0)) in
-    lists _ (args .validator) (args .out .now) (args .at) _ _ _ _ is (told .answer2 .given .1) (validator-refused (args .validator) why)
+    lists _ (args .validator) (args .out .now) (args .at) _ _ _ _ (load .ensures) (told .answer2 .given .1) (validator-refused (args .validator) why)
+    (unsound-refused (args .validator) why)
     (respelled lines (c .before .before .put-last .ensures))
     (omega (arith, ap length lines, short-last (load .result .state .progress .counts) (numberOf why)))
 
@@ -101,7 +83,6 @@ pub list-cdp-spec : {M : Type 1} → statement M
 list-cdp-spec =
     tie.close
     (tie.spec
-    settings-requires
     load-cdp-requires
     enum-known-answer
     put-packet-requires

@@ -22,6 +22,7 @@ same-length c = search needs
 returns : tie.Need-returns
 unfolding packetLines
 returns c =
+    let judged = c .before .before .put-verdict-line .ensures in
     let rowed = c .before .before .before .before .before .before in
     let before = rowed .before .before in
     let start = before .before in
@@ -30,8 +31,9 @@ returns c =
     let held = in-range h _ (start .good .1 .1 .1 .1 .0) in
     let small = expected-byte (v .«header_id») (v .its) (h .rdh0 .«header_id») _ (id-byte h held) (start .good .1 .1 .0) in
     record {
-      validator = c .before .before .put-verdict-line .ensures .0;
-      lines = and-then (rowed .put-row-line .ensures) (c .before .before .put-verdict-line .ensures .1);
+      validator = judged .0;
+      unsound = judged .1;
+      lines = and-then (rowed .put-row-line .ensures) (judged .2);
       short = short-packet v (start .args .position .0) h (longest-row h held) (text-fits v h small held);
     }
 

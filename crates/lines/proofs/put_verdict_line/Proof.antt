@@ -6,7 +6,7 @@ use lib.ListN.{length-replicate, take}
 use Rattle.serde_rdh.proofs.Held.{in-range}
 use Rattle.text.specs.PutLaws.{put-nothing, respelled}
 use Rattle.lines.specs.Lines.{lineAt}
-use Rattle.lines.specs.ListedLaws.{checked, flawed-line, flawed-within, never-short, sound-line}
+use Rattle.lines.specs.ListedLaws.{checked, flawed-line, flawed-told, flawed-within, never-short, sound-line, sound-told}
 use Rattle.lines.proofs.HeldIds.{expected-byte, id-byte}
 use borrow.Author.Needs.{needs}
 use Rattle.lines.proofs.put_verdict_line.Statement.{statement}
@@ -64,6 +64,7 @@ returns c =
     let room = length-replicate {A = ℕ} 512 0 in
     let at = start .args .position .0 in (
       checked v h small held at _ room _ _ (check .ensures),
+      sound-told v h small held at _ room _ _ (check .ensures) (c .enum-told .given .1),
       respelled (sym (sound-line v h small held at _ room _ _ (check .ensures) (c .enum-told .given .1)))
           (put-nothing _ _ (omega arith) (omega arith)),
     )
@@ -87,6 +88,7 @@ returns-2 c =
     let n = judged-it .verdict .given .0 .0 in
     let whole : n - 0 ≡ n = omega arith in (
       checked v h small held at _ room _ _ (check .ensures),
+      flawed-told v h small held at _ room _ _ (check .ensures) _ (judged-it .verdict .given .1),
       respelled
           (ap (λ (k : ℕ). lineAt at (take k (check .last .1 .1 .0))) whole
           ∙ flawed-line v h small held at _ room _ _ (check .ensures) _ (judged-it .verdict .given .1))

@@ -10,7 +10,7 @@ use Rattle.listing.proofs.list.Statement.{statement}
 use Rattle.listing.proofs.list.Tie as tie
 
 abbrev Inv-loop : tie.InvT-loop
-Inv-loop buffer₀ fee-ids₀ out₀ state₀ validator₀ held₀ used₀ turns₀ buffer fee-ids out state validator held used turns =
+Inv-loop buffer₀ fee-ids₀ out₀ set state₀ validator₀ held₀ used₀ turns₀ buffer fee-ids out state validator held used turns =
     (length buffer ≡ length buffer₀)
     × (length fee-ids ≡ length fee-ids₀)
     × (length out ≡ length out₀)
@@ -18,7 +18,10 @@ Inv-loop buffer₀ fee-ids₀ out₀ state₀ validator₀ held₀ used₀ turns
     × (used ≤ length out)
 
 abbrev μ-loop : tie.MeasureT-loop
-μ-loop buffer₀ fee-ids₀ out₀ state₀ validator₀ held₀ used₀ turns₀ buffer fee-ids out state validator held used turns = turns
+μ-loop buffer₀ fee-ids₀ out₀ set state₀ validator₀ held₀ used₀ turns₀ buffer fee-ids out state validator held used turns = turns
+
+list-settings-requires : tie.Need-list-settings-requires Inv-loop μ-loop
+list-settings-requires c κs = search needs
 
 new-requires : tie.Need-new-requires Inv-loop μ-loop
 new-requires c κs = search needs
@@ -38,8 +41,9 @@ sub-turns c = omega arith
 
 with-room-requires : tie.Need-with-room-requires Inv-loop μ-loop
 with-room-requires c κs =
-    let start = c .before .before .before .before .before .before .before .before .before in
-    (c .before .before .loop .inv .4, omega (arith, start .pre, c .before .before .loop .inv .2))
+    let turn = c .before .before in
+    let start = turn .before .before .before .before .before .before .before .before in
+    (turn .loop .inv .4, omega (arith, start .pre, turn .loop .inv .2))
 
 enum-known-at : tie.Need-enum-known-at Inv-loop μ-loop
 enum-known-at c = search needs
@@ -100,13 +104,13 @@ same-length-5 : tie.Need-same-length-5 Inv-loop μ-loop
 same-length-5 c =
     let listed = c .before .before .before .before .before .before .before .before .before .before .before .before .before .before .before in
     let turn = listed .before .before .before .before .before .before .before .before .before .before .before in
-    listed .list-cdp .kept .1 .1 .0 ∙ turn .loop .inv .1
+    listed .list-cdp .kept .1 .1 .1 .0 ∙ turn .loop .inv .1
 
 same-length-6 : tie.Need-same-length-6 Inv-loop μ-loop
 same-length-6 c =
     let listed = c .before .before .before .before .before .before .before .before .before .before .before .before .before .before .before in
     let turn = listed .before .before .before .before .before .before .before .before .before .before .before in
-    listed .list-cdp .kept .1 .1 .1 .1 .1 .1 .0 ∙ turn .loop .inv .2
+    listed .list-cdp .kept .1 .1 .1 .1 .1 .1 .1 .0 ∙ turn .loop .inv .2
 
 returns-2 : tie.Need-returns-2 Inv-loop μ-loop
 returns-2 c = tt
@@ -124,8 +128,8 @@ loop-again c =
     let tried = made .before .before in
     let turn = tried .before .before .before in (
       asked .next-window .kept .0 ∙ turn .loop .inv .0,
-      listed .list-cdp .kept .1 .1 .0 ∙ turn .loop .inv .1,
-      listed .list-cdp .kept .1 .1 .1 .1 .1 .1 .0 ∙ turn .loop .inv .2,
+      listed .list-cdp .kept .1 .1 .1 .0 ∙ turn .loop .inv .1,
+      listed .list-cdp .kept .1 .1 .1 .1 .1 .1 .1 .0 ∙ turn .loop .inv .2,
       held-there (asked .next-window .last .0) (c .before .next .given .1) (asked .next-window .ensures),
       put-within (turn .loop .out) _ _ (listed .list-cdp .ensures) (room-there (turn .loop .out) (made .at .given .1) (tried .with-room .ensures)),
     )
@@ -148,6 +152,7 @@ list-spec =
     (tie.spec
     Inv-loop
     μ-loop
+    list-settings-requires
     new-requires
     new-validator-requires
     empty-requires

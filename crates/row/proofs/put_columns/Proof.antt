@@ -35,7 +35,7 @@ use denote.Triple.Table.{entered, cited}
 use denote.Triple.Walked.{says, Stays, stay-none, gave-slice, walkOf, goes-none, goes-gave-slice, Walks, ends-at, walked, walk-meets}
 use denote.Exit.{yes}
 use denote.Signature.{plain}
-use Rattle.text.specs.Numerals.{decimal, hex, left}
+use Rattle.text_numbers.specs.Numerals.{decimal, hex, left}
 use Rattle.text.specs.Put.{Put}
 use Rattle.text.specs.PutLaws.{same-length}
 use Rattle.writer.specs.declared.TextWriter.{TextWriter}

@@ -12,9 +12,10 @@ use Rattle.scan_cdp.specs.Turns.{counted, feeId, turnOf}
 use Rattle.scan_cdp.specs.declared.Progress.{Progress}
 use Rattle.scan_cdp.specs.declared.Settings.{Settings}
 use Rattle.scan_cdp.specs.declared.Turn.{Turn}
-use Rattle.input_scanner.specs.Replies.{withLinks}
+use Rattle.scan_window.specs.Stepping.{withLinks}
 use Rattle.input_scanner.specs.Stepping.{Stepped}
-use Rattle.input_scanner.specs.SteppingLaws.{header-entered, header-wanted, nothing-changed}
+use Rattle.scan_window.specs.SteppingLaws.{nothing-changed}
+use Rattle.input_scanner.specs.SteppingLaws.{header-entered, header-wanted}
 use borrow.Author.Needs.{needs}
 use Rattle.input_scanner.proofs.step.header_step.Statement.{statement}
 use Rattle.input_scanner.proofs.step.header_step.Tie as tie

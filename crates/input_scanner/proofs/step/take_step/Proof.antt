@@ -14,8 +14,9 @@ use Rattle.serde_rdh.specs.Layout.{decode}
 use Rattle.serde_rdh.specs.LayoutLaws.{decode-given}
 use Rattle.serde_rdh.specs.Refusals.{decodeAnswer}
 use Rattle.serde_rdh.specs.declared.FromBuf.{FromBuf}
-use Rattle.input_scanner.specs.Replies.{withLinks}
-use Rattle.input_scanner.specs.SteppingLaws.{examined-decoded, examined-lacking, inside, nothing-changed, numbers-alone}
+use Rattle.scan_window.specs.Stepping.{withLinks}
+use Rattle.scan_window.specs.SteppingLaws.{inside, nothing-changed, numbers-alone}
+use Rattle.input_scanner.specs.SteppingLaws.{examined-decoded, examined-lacking}
 use borrow.Author.Needs.{needs}
 use Rattle.input_scanner.proofs.step.take_step.Statement.{statement}
 use Rattle.input_scanner.proofs.step.take_step.Tie as tie

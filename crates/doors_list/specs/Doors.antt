@@ -1,0 +1,32 @@
+-- What a listing through C's structs leaves.
+use Prim.Native.Nat.{ℕ}
+use mathlib.Core.Bool.{Bool}
+use mathlib.Core.List.{List}
+use Rattle.listing_batch.specs.Outcomes.{Outcome, listedInto}
+use Rattle.doors_scan_structs.specs.Plain.{settingsOf, stateOf}
+use Rattle.doors_scan_structs.specs.declared.plain.PlainSettings.{PlainSettings}
+use Rattle.doors_scan_structs.specs.declared.plain.PlainState.{PlainState}
+use Rattle.doors_verdict.specs.Plain.{validatorOf}
+use Rattle.doors_verdict.specs.declared.plain.PlainValidator.{PlainValidator}
+use Rattle.doors_list.specs.Replies.{listedWith}
+use Rattle.doors_list.specs.declared.PlainListed.{PlainListed}
+
+-- The reply, and what the lent arrays hold after a call.
+pub record Left : Type 0 where
+  pub reply : PlainListed
+  pub links : List ℕ
+  pub feeIds : List ℕ
+  pub out : List ℕ
+
+abbrev pub left : PlainListed → (links feeIds out : List ℕ) → Left
+left reply links feeIds out = record { reply = reply; links = links; feeIds = feeIds; out = out }
+
+-- What a call with this outcome leaves.
+abbrev pub leftBy : Outcome → Left
+leftBy o = left (listedWith (o .stop) (o .state .progress) (o .validator) (o .bytes) (o .unsound)) (o .state .links) (o .feeIds) (o .out)
+
+-- What a listing leaves.
+unfoldable pub listedThrough : PlainSettings → PlainState → PlainValidator → (links feeIds w : List ℕ) → (first : ℕ) → (last : Bool)
+    → (out : List ℕ) → Left
+listedThrough settings state validator links feeIds w first last out =
+    leftBy (listedInto out (settingsOf settings) (validatorOf validator) (stateOf state links) feeIds w first last)

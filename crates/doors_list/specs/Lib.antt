@@ -1,0 +1,4 @@
+pub mod Replies
+pub mod Doors
+pub mod ReplyLaws
+pub mod DoorLaws

@@ -1,0 +1,118 @@
+// What C and Python call to list packets, many of them in one call.
+ghost use mathlib.Core.Path.{_≡_};
+ghost use Rattle.listing_batch.specs.Batches.{stopOf};
+ghost use Rattle.doors_list.specs.Doors.{left, listedThrough};
+ghost use Rattle.doors_list.specs.Replies.{listedWith, plainStop};
+use doors_header::plain::BUFFER_TOO_SHORT;
+use doors_header::plain::NO_REFUSAL;
+use doors_scan_structs::plain::PlainSettings;
+use doors_scan_structs::plain::PlainState;
+use doors_scan_structs::plain::plain_state;
+use doors_scan_structs::plain::progress_of;
+use doors_scan_structs::plain::settings_of;
+use doors_scan_structs::reply::PlainAnswer;
+use doors_scan_structs::reply::plain_answer;
+use doors_scan_structs::reply::refused;
+use doors_verdict::plain::PlainValidator;
+use doors_verdict::plain::plain_validator;
+use doors_verdict::plain::validator_of;
+use listing_batch::Stop;
+use scan_cdp::BytePlace;
+use scan_cdp::Progress;
+use scan_cdp::State;
+use validators::RdhCruSanityValidator;
+
+// The kind of an answer that only a listing has: the buffer may have no room for the next packet's lines.
+const FULL: u32 = 4;
+
+// A listing, as far as it went: why it stopped, what to go on with, how many bytes were written (or are needed, with refusal 7), and how many
+// of the packets are not sound.
+#[repr(C)]
+pub struct PlainListed {
+    pub answer: PlainAnswer,
+    pub state: PlainState,
+    pub validator: PlainValidator,
+    pub length: usize,
+    pub unsound: u64,
+}
+
+// Puts the lines of successive loads at the start of `out`.
+#[no_mangle]
+pub extern "C" fn kesarimbu_list(
+    settings: PlainSettings,
+    state: PlainState,
+    validator: PlainValidator,
+    links: &mut [u8; 256],
+    fee_ids: &mut [u16],
+    window: &[u8],
+    first: u64,
+    last: bool,
+    out: &mut [u8],
+) -> PlainListed
+    ensures { λ r. ⌜ left r (now (links .exit)) (now («fee_ids» .exit)) (now (out .exit))
+        ≡ listedThrough settings state validator (now (links .entry)) (now («fee_ids» .entry)) (now (window .entry)) first last
+        (now (out .entry)) ⌝ }
+{
+    let before = *links;
+    let batch = listing_batch::list_loads(
+        settings_of(settings),
+        State {
+            progress: progress_of(state),
+            links: before,
+        },
+        validator_of(validator),
+        fee_ids,
+        window,
+        BytePlace(first),
+        last,
+        out,
+    );
+    let stop = batch.stop;
+    let state = batch.state;
+    let after = state.links;
+    *links = after;
+    plain_listed(
+        stop,
+        state.progress,
+        batch.validator,
+        batch.length,
+        batch.unsound,
+    )
+}
+
+fn plain_listed(
+    stop: Stop,
+    progress: Progress,
+    validator: RdhCruSanityValidator,
+    length: usize,
+    unsound: u64,
+) -> PlainListed
+    ensures { λ r. ⌜ r ≡ listedWith (stopOf stop) progress validator length unsound ⌝ }
+{
+    PlainListed {
+        answer: plain_stop(stop),
+        state: plain_state(progress),
+        validator: plain_validator(validator),
+        length,
+        unsound,
+    }
+}
+
+fn plain_stop(stop: Stop) -> PlainAnswer
+    ensures { λ r. ⌜ r ≡ plainStop (stopOf stop) ⌝ }
+{
+    match stop {
+        Stop::Full => PlainAnswer {
+            position: 0,
+            want_place: 0,
+            want_size: 0,
+            payload_start: 0,
+            payload_length: 0,
+            kind: FULL,
+            refusal: NO_REFUSAL,
+            distance: 0,
+        },
+        Stop::TooShort => refused(BUFFER_TOO_SHORT, 0, 0),
+        Stop::Answered(answer) => plain_answer(answer),
+    }
+}

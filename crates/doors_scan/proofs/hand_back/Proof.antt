@@ -1,0 +1,22 @@
+-- Each of reply, links and header is one part of what is left.
+use Prim.Native.Nat.{ℕ}
+use mathlib.Core.List.{List}
+use Rattle.doors_scan.specs.Doors.{left}
+use borrow.Author.Needs.{needs}
+use Rattle.doors_scan.proofs.hand_back.Statement.{statement}
+use Rattle.doors_scan.proofs.hand_back.Tie as tie
+
+put-header-requires : tie.Need-put-header-requires
+put-header-requires c κs = search needs
+
+reply-of-requires : tie.Need-reply-of-requires
+reply-of-requires c κs = search needs
+
+returns : tie.Need-returns
+returns c =
+    let written = c .before in
+    let args = written .before .before .before .args in
+    λ (feeIds : List ℕ) i. left (c .reply-of .ensures i) (args .state .links) feeIds (written .put-header .ensures i)
+
+pub hand-back-spec : {M : Type 1} → statement M
+hand-back-spec = tie.close (tie.spec put-header-requires reply-of-requires returns)

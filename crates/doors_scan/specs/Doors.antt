@@ -1,0 +1,50 @@
+-- What an examination and a load through C's structs leave.
+use Prim.Native.Nat.{ℕ}
+use mathlib.Core.Bool.{Bool}
+use mathlib.Core.List.{List}
+use mathlib.Core.Path.{_≡_}
+use Rattle.scan_cdp.specs.Answers.{answerOf}
+use Rattle.scan_cdp.specs.Loads.{Loaded, loaded, noLoadMarks, replied}
+use Rattle.scan_cdp.specs.Windows.{examined}
+use Rattle.scan_cdp.specs.declared.Examined.{Examined}
+use Rattle.scan_cdp.specs.declared.LoadMarks.{LoadMarks}
+use Rattle.scan_cdp.specs.declared.Part.{Part}
+use Rattle.scan_cdp.specs.declared.State.{State}
+use Rattle.doors_scan_structs.specs.Plain.{settingsOf, stateOf}
+use Rattle.doors_scan_structs.specs.Replies.{headerLeft, replyOf}
+use Rattle.doors_scan_structs.specs.declared.plain.PlainSettings.{PlainSettings}
+use Rattle.doors_scan_structs.specs.declared.plain.PlainState.{PlainState}
+use Rattle.doors_scan_structs.specs.declared.reply.PlainReply.{PlainReply}
+
+-- The reply, and what the lent arrays hold after a call.
+pub record Left : Type 0 where
+  pub reply : PlainReply
+  pub links : List ℕ
+  pub feeIds : List ℕ
+  pub header : List ℕ
+
+abbrev pub left : PlainReply → (links feeIds header : List ℕ) → Left
+left reply links feeIds header = record { reply = reply; links = links; feeIds = feeIds; header = header }
+
+-- What a call with this reply leaves, where the header's bytes were these.
+abbrev pub leftBy : Loaded Part → List ℕ → Left
+leftBy l header = left (replyOf (l .answer) (l .marks) (l .state .progress)) (l .state .links) (l .feeIds) (headerLeft (l .answer) header)
+
+-- What an examination leaves: its marks are those of a load that makes no other.
+unfoldable pub examinedThrough : PlainSettings → PlainState → (links feeIds w : List ℕ) → (first : ℕ) → (last : Bool) → (header : List ℕ)
+    → Left
+examinedThrough settings state links feeIds w first last header =
+    leftBy (replied noLoadMarks (examined (settingsOf settings) (stateOf state links) feeIds w first last)) header
+
+-- What a load leaves.
+unfoldable pub loadedThrough : PlainSettings → PlainState → (links feeIds w : List ℕ) → (first : ℕ) → (last : Bool) → (header : List ℕ)
+    → Left
+loadedThrough settings state links feeIds w first last header =
+    leftBy (loaded (settingsOf settings) (stateOf state links) feeIds w first last) header
+
+-- That a reply, the links and the header's bytes, which were `before`, are those of an answer with its marks and its state, whatever FEE ids
+-- stand beside them.
+abbrev pub HandedBack : Examined → LoadMarks → State → (before : List ℕ) → PlainReply → (links header : List ℕ) → Type 0
+HandedBack answer marks state before r links header =
+    (feeIds : List ℕ)
+    → left r links feeIds header ≡ leftBy (record { answer = answerOf answer; marks = marks; state = state; feeIds = feeIds }) before

@@ -1,0 +1,2 @@
+pub mod Doors
+pub mod DoorLaws

@@ -1,0 +1,103 @@
+// What C and Python call: the examination of a header and the load of a packet, over structs by value that C has too.
+ghost use mathlib.Core.Path.{_≡_};
+ghost use Rattle.doors_scan.specs.Doors.{HandedBack, examinedThrough, left, loadedThrough};
+ghost use Rattle.doors_scan_structs.specs.Plain.{stateOf};
+use crate::header::put_header;
+use doors_scan_structs::plain::PlainSettings;
+use doors_scan_structs::plain::PlainState;
+use doors_scan_structs::plain::progress_of;
+use doors_scan_structs::plain::settings_of;
+use doors_scan_structs::reply::PlainReply;
+use doors_scan_structs::reply::alone;
+use doors_scan_structs::reply::reply_of;
+use scan_cdp::BytePlace;
+use scan_cdp::Examined;
+use scan_cdp::LoadMarks;
+use scan_cdp::State;
+
+mod header;
+
+// Examines the header at the state's byte place.
+#[no_mangle]
+pub extern "C" fn kesarimbu_examine(
+    settings: PlainSettings,
+    state: PlainState,
+    links: &mut [u8; 256],
+    fee_ids: &mut [u16],
+    window: &[u8],
+    first: u64,
+    last: bool,
+    header: &mut [u8; 64],
+) -> PlainReply
+    ensures { λ r. ⌜ left r (now (links .exit)) (now («fee_ids» .exit)) (now (header .exit))
+        ≡ examinedThrough settings state (now (links .entry)) (now («fee_ids» .entry)) (now (window .entry)) first last (now (header .entry)) ⌝ }
+{
+    let before = *links;
+    let examination = input_scanner::examine(
+        settings_of(settings),
+        state_of(state, before),
+        fee_ids,
+        window,
+        BytePlace(first),
+        last,
+    );
+    let answer = examination.answer;
+    let marks = examination.marks;
+    let after = examination.state;
+    hand_back(answer, alone(marks), after, links, header)
+}
+
+// Loads the next packet.
+#[no_mangle]
+pub extern "C" fn kesarimbu_load(
+    settings: PlainSettings,
+    state: PlainState,
+    links: &mut [u8; 256],
+    fee_ids: &mut [u16],
+    window: &[u8],
+    first: u64,
+    last: bool,
+    header: &mut [u8; 64],
+) -> PlainReply
+    ensures { λ r. ⌜ left r (now (links .exit)) (now («fee_ids» .exit)) (now (header .exit))
+        ≡ loadedThrough settings state (now (links .entry)) (now («fee_ids» .entry)) (now (window .entry)) first last (now (header .entry)) ⌝ }
+{
+    let before = *links;
+    let load = input_scanner::load_cdp(
+        settings_of(settings),
+        state_of(state, before),
+        fee_ids,
+        window,
+        BytePlace(first),
+        last,
+    );
+    let answer = load.answer;
+    let marks = load.marks;
+    let after = load.state;
+    hand_back(Examined::Answered(answer), marks, after, links, header)
+}
+
+fn state_of(n: PlainState, links: [u8; 256]) -> State
+    ensures { λ r. ⌜ r ≡ stateOf n links ⌝ }
+{
+    State {
+        progress: progress_of(n),
+        links,
+    }
+}
+
+// Writes the links and a packet's header, and gives the rest as the reply.
+fn hand_back(
+    answer: Examined,
+    marks: LoadMarks,
+    state: State,
+    links: &mut [u8; 256],
+    header: &mut [u8; 64],
+) -> PlainReply
+    ensures { λ r. ⌜ HandedBack answer marks state (now (header .entry)) r (now (links .exit)) (now (header .exit)) ⌝ }
+{
+    let after = state.links;
+    *links = after;
+    put_header(answer, header);
+    reply_of(answer, marks, state.progress)
+}

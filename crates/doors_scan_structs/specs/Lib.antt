@@ -1,0 +1,4 @@
+pub mod Plain
+pub mod PlainLaws
+pub mod Replies
+pub mod ReplyLaws

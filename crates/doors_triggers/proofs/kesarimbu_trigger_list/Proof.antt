@@ -1,0 +1,37 @@
+-- The list of the statistics that C's struct is.
+use mathlib.Core.Path.{ap, _∙_}
+use Rattle.text.specs.Written.{overwritten, written}
+use Rattle.trigger_stats.specs.declared.TriggerStats.{TriggerStats}
+use Rattle.trigger_texts.specs.TriggerList.{listText}
+use Rattle.doors_header.specs.Plain.{plainWritten}
+use borrow.Author.Needs.{needs}
+use Rattle.doors_triggers.proofs.kesarimbu_trigger_list.Statement.{statement}
+use Rattle.doors_triggers.proofs.kesarimbu_trigger_list.Tie as tie
+
+counts-of-requires : tie.Need-counts-of-requires
+counts-of-requires c κs = search needs
+
+display-requires : tie.Need-display-requires
+display-requires c κs = search needs
+
+plain-text-requires : tie.Need-plain-text-requires
+plain-text-requires c κs = search needs
+
+same-length : tie.Need-same-length
+same-length c = search needs
+
+returns : tie.Need-returns
+returns c =
+    let call = c .before .before .before in
+    let asked = call .before .before in
+    let out = asked .before .before .args .out .now in
+    let made = call .display .ensures in
+    let stats = asked .counts-of .ensures in (
+      c .plain-text .ensures ∙ ap plainWritten (made .reply) ∙ ap (λ (s : TriggerStats). plainWritten (written (listText s) out)) stats,
+      made .leaves ∙ ap (λ (s : TriggerStats). overwritten (listText s) out) stats,
+    )
+
+pub kesarimbu-trigger-list-spec : {M : Type 1} → statement M
+kesarimbu-trigger-list-spec =
+    tie.close
+    (tie.spec counts-of-requires display-requires plain-text-requires same-length returns)

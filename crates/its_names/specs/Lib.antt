@@ -1,0 +1,3 @@
+pub mod StaveNames
+pub mod StaveNameLaws
+pub mod Parsing

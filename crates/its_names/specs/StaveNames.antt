@@ -1,0 +1,67 @@
+-- Stave names as lists of bytes, and what is answered to one (document 01, "The 64 bytes" and "When the reader says no").
+use mathlib.Core.Path.{_≡_}
+use mathlib.Core.List.{List, [], _∷_, _++_}
+use Prim.Native.Nat.{ℕ, _+_, _-_, _*_, _^_, _≤_, _<_}
+use lib.ListN.{length, getD}
+use Rattle.basis.specs.Refusals.{Answer, gives, refuses}
+use Rattle.its.specs.FeeIds.{feeIdOf}
+use Rattle.its_names.specs.declared.StaveFeeId.{StaveFeeId}
+use Rattle.its_names.specs.declared.StaveFeeId.the-variants.{FeeId, NotAStaveName}
+
+-- The bytes `+`, `_`, `0` and `9`.
+abbrev pub plusSign : ℕ
+plusSign = 43
+
+abbrev pub underscore : ℕ
+underscore = 95
+
+abbrev pub digit0 : ℕ
+digit0 = 48
+
+abbrev pub digit9 : ℕ
+digit9 = 57
+
+abbrev pub Digit : ℕ → Type 0
+Digit byte = (digit0 ≤ byte) × (byte ≤ digit9)
+
+abbrev pub AllDigits : List ℕ → Type 0
+AllDigits text = (k : ℕ) → k < length text → Digit (getD text k 0)
+
+-- The number that decimal digits spell: a digit counts ten to the power of how many stand behind it.
+unfoldable pub valueOf : List ℕ → ℕ
+valueOf [] = 0
+valueOf (digit ∷ behind) = (digit - digit0) * 10 ^ length behind + valueOf behind
+
+-- "one or more digits, at most 255", which spell n.
+pub record Digits (text : List ℕ) (n : ℕ) : Type 0 where
+  pub one-or-more : 0 < length text
+  pub each : AllDigits text
+  pub spell : valueOf text ≡ n
+  pub at-most : n ≤ 255
+
+-- "Each number is an optional `+`, then one or more digits, at most 255."
+pub data Number (text : List ℕ) (n : ℕ) : Type 0 where
+  plain : Digits text n → Number text n
+  signed : (digits : List ℕ) → text ≡ plusSign ∷ digits → Digits digits n → Number text n
+
+-- "A stave name is one first byte (any below 0x80 but `_`), a layer, one `_`, a stave."
+pub record Named (name : List ℕ) (layer stave : ℕ) : Type 0 where
+  pub first : ℕ
+  pub layer-text : List ℕ
+  pub stave-text : List ℕ
+  pub parts : name ≡ first ∷ (layer-text ++ (underscore ∷ stave-text))
+  pub below-0x80 : first < 0x80
+  pub but-underscore : first ≡ underscore → ⊥
+  pub a-layer : Number layer-text layer
+  pub a-stave : Number stave-text stave
+
+-- The answer to a list of bytes: a stave name gives "the FEE id .. made from layer mod 8 and stave mod 64"; what is "not a
+-- stave name" is refused with number 8, and nothing is returned.
+pub data Answered (name : List ℕ) (answer : Answer ℕ) : Type 0 where
+  named : (layer stave : ℕ) → Named name layer stave → answer ≡ gives (feeIdOf layer stave) → Answered name answer
+  not-named : ((layer stave : ℕ) → Named name layer stave → ⊥) → answer ≡ refuses 8 [] → Answered name answer
+
+-- The answer that each case of the code's enum is.
+abbrev pub answerOf : StaveFeeId → Answer ℕ
+answerOf (FeeId id) = gives id
+answerOf NotAStaveName = refuses 8 []

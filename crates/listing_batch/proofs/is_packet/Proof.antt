@@ -1,0 +1,30 @@
+-- Each arm is one case.
+use mathlib.Core.Path.{refl, sym}
+use Rattle.listing_batch.specs.BatchLaws.{refusal-stops}
+use borrow.Author.Needs.{needs}
+use Rattle.listing_batch.proofs.is_packet.Statement.{statement}
+use Rattle.listing_batch.proofs.is_packet.Tie as tie
+
+enum-told : tie.Need-enum-told
+enum-told c = search needs
+
+enum-told-2 : tie.Need-enum-told-2
+enum-told-2 c = search needs
+
+enum-told-3 : tie.Need-enum-told-3
+enum-told-3 c = search needs
+
+returns : tie.Need-returns
+returns c = search needs
+
+returns-2 : tie.Need-returns-2
+returns-2 c = search needs
+
+returns-3 : tie.Need-returns-3
+returns-3 c =
+    let told = c .enum-told3 .given in
+    rw (told .1) (sym (refusal-stops (told .0 .0)))
+
+pub is-packet-spec : {M : Type 1} → statement M
+is-packet-spec =
+    tie.close (tie.spec enum-told enum-told-2 enum-told-3 returns returns-2 returns-3)

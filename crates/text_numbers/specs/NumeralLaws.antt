@@ -1,0 +1,89 @@
+-- Laws of numerals: the step that a writer takes from a number to its quotient, and their lengths.
+use Prim.Native.Nat.{ℕ, zero, suc, _+_, _-_, _*_, _/_, _%_, _^_, _≤_, _<_, max}
+use mathlib.Core.Bool.{Bool, true, false}
+use mathlib.Core.Path.{_≡_, refl, ap, sym, _∙_, subst}
+use mathlib.Core.List.{List, [], _∷_, _++_}
+use native.Mathlib.Nat.{pow-zero, pow-suc, div-lt-iff-lt-mul}
+use native.Mathlib.Omega.{arith}
+use borrow.Author.Tests.{ltb-true, ltb-false, le-ltb, lt-ltb}
+use lib.Dec.{ltb}
+use lib.ListN.{length, length-append, length-replicate, replicate}
+use Rattle.basis.specs.Pick.{pick, on, off}
+use Rattle.text.specs.Ascii.{ascii}
+use Rattle.text_numbers.specs.Numerals.{numeral, glyph, decimal, hex, left}
+
+-- the quotient of a number of one digit more
+quotient-below : (base k n : ℕ) → 0 < base → n < base ^ suc k → n / base < base ^ k
+quotient-below base k n pos h = div-lt-iff-lt-mul pos .1 (subst (λ (x : ℕ). n < x) (pow-suc base k) h)
+
+one-digit : (base n : ℕ) → n < base ^ 1 → n < base
+one-digit base n h =
+    subst (λ (x : ℕ). n < x) (pow-suc base 0 ∙ omega (arith, ap (λ (x : ℕ). x * base) (pow-zero base))) h
+
+-- room for more digits changes nothing
+more-room : (base k n : ℕ) → 0 < base → n < base ^ suc k → numeral base (suc (suc k)) n ≡ numeral base (suc k) n
+unfolding numeral
+more-room base zero n pos h =
+    let last = lt-ltb n base (one-digit base n h) in
+    on _ _ last ∙ sym (on _ _ last)
+more-room base (suc k) n pos h =
+    ap (λ (t : List ℕ). pick (ltb n base) (glyph n ∷ []) (t ++ (glyph (n % base) ∷ [])))
+    (more-room base k (n / base) pos (quotient-below base (suc k) n pos h))
+
+-- a number below the base is its digit
+pub numeral-last : (base k n : ℕ) → n < base → numeral base (suc k) n ≡ glyph n ∷ []
+unfolding numeral
+numeral-last base k n h = on _ _ (lt-ltb n base h)
+
+-- another is its quotient's numeral and its last digit
+pub numeral-step : (base k n : ℕ) → 0 < base → base ≤ n → n < base ^ suc (suc k)
+    → numeral base (suc (suc k)) n ≡ numeral base (suc (suc k)) (n / base) ++ (glyph (n % base) ∷ [])
+unfolding numeral
+numeral-step base k n pos above h =
+    off _ _ (le-ltb n base above)
+    ∙ ap (λ (t : List ℕ). t ++ (glyph (n % base) ∷ []))
+    (sym (more-room base k (n / base) pos (quotient-below base (suc k) n pos h)))
+
+-- a number below a power of the base has at most as many digits
+pub length-numeral : (base most k n : ℕ) → 0 < base → n < base ^ suc k → length (numeral base most n) ≤ suc k
+unfolding numeral
+length-numeral base zero k n pos h = omega arith
+length-numeral base (suc most) zero n pos h =
+    omega (arith, ap length (numeral-last base most n (one-digit base n h)))
+length-numeral base (suc most) (suc k) n pos h =
+    let ih = length-numeral base most k (n / base) pos (quotient-below base (suc k) n pos h) in
+    go (ltb n base) ih
+  where
+    go : (b : Bool) → length (numeral base most (n / base)) ≤ suc k
+        → length (pick b (glyph n ∷ []) (numeral base most (n / base) ++ (glyph (n % base) ∷ []))) ≤ suc (suc k)
+    go true ih = omega arith
+    go false ih = omega (arith, length-append (numeral base most (n / base)) (glyph (n % base) ∷ []))
+
+-- at most as many digits as there is room for
+pub numeral-room : (base most n : ℕ) → length (numeral base most n) ≤ most
+unfolding numeral
+numeral-room base zero n = omega arith
+numeral-room base (suc most) n = go (ltb n base) (numeral-room base most (n / base))
+  where
+    go : (b : Bool) → length (numeral base most (n / base)) ≤ most
+        → length (pick b (glyph n ∷ []) (numeral base most (n / base) ++ (glyph (n % base) ∷ []))) ≤ suc most
+    go true ih = omega arith
+    go false ih = omega (arith, length-append (numeral base most (n / base)) (glyph (n % base) ∷ []))
+
+pub length-left : (width : ℕ) (t : List ℕ) → length (left width t) ≡ max width (length t)
+unfolding left
+length-left width t = omega (arith, length-append t (replicate (width - length t) 32), length-replicate {A = ℕ} (width - length t) 32)
+
+-- a column that is wide enough for its number has just its width
+pub decimal-column : (width k n : ℕ) → n < 10 ^ suc k → suc k ≤ width → length (left width (decimal n)) ≡ width
+unfolding decimal
+decimal-column width k n small wide =
+    omega (arith, length-left width (numeral 10 20 n), length-numeral 10 20 k n (omega arith) small)
+
+pub length-hex : (k n : ℕ) → n < 16 ^ suc k → length (hex n) ≤ 3 + k
+unfolding hex
+length-hex k n small =
+    omega (arith, length-append (ascii "0x") (numeral 16 16 n), length-numeral 16 16 k n (omega arith) small)
+
+pub hex-column : (width k n : ℕ) → n < 16 ^ suc k → 3 + k ≤ width → length (left width (hex n)) ≡ width
+hex-column width k n small wide = omega (arith, length-left width (hex n), length-hex k n small)

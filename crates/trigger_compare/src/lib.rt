@@ -1,0 +1,121 @@
+// The comparison of two trigger statistics.
+use text::Written;
+use trigger_stats::COUNTERS;
+use trigger_stats::TriggerStats;
+ghost use mathlib.Core.List.{[]};
+ghost use Prim.Native.Nat.{_<_};
+ghost use lib.Dec.{eqb};
+ghost use Rattle.basis.specs.Pick.{pick};
+ghost use Rattle.text.specs.Ascii.{ascii};
+ghost use Rattle.text.specs.Put.{Put};
+ghost use Rattle.trigger_stats.specs.Counters.{counterAt, counters};
+ghost use Rattle.trigger_texts.specs.Lines.{inOrder};
+ghost use Rattle.trigger_texts.specs.Mismatches.{Compares, mismatchIfAny, mismatchOf, name};
+
+// The length of the longest comparison, with ten digits in every number.
+const LONGEST_COMPARISON: usize = 1058;
+
+// The fields' names in their order, filled up with blanks, and how long they are without these.
+const NAME_WIDTH: usize = 8;
+
+const NAMES: [u8; 160] = *b"\
+    orbit   \
+    hb      \
+    hbr     \
+    hc      \
+    pht     \
+    pp      \
+    cal     \
+    sot     \
+    eot     \
+    soc     \
+    eoc     \
+    tf      \
+    fe_rst  \
+    rt      \
+    rs      \
+    lhc_gap1\
+    lhc_gap2\
+    tpc_sync\
+    tpc_rst \
+    tof     ";
+
+const NAME_LENGTHS: [usize; COUNTERS] = [
+    5,
+    2,
+    3,
+    2,
+    3,
+    2,
+    3,
+    3,
+    3,
+    3,
+    3,
+    2,
+    6,
+    2,
+    2,
+    8,
+    8,
+    8,
+    7,
+    3,
+];
+
+// Writes a line for each count that differs from that of `other`, which is the expected one. Equal statistics give the empty
+// text, which fits any buffer.
+pub fn validate_other(stats: TriggerStats, other: TriggerStats, out: &mut [u8]) -> Written
+    ensures { λ r. ⌜ Compares stats other (now (out .entry)) r (now (out .exit)) ⌝ }
+{
+    if LONGEST_COMPARISON <= out.len() {
+        return Written::Text(put_mismatches(stats, other, out, 0));
+    }
+    let mut none = [0u8; 0];
+    let need = put_mismatches(stats, other, &mut none, 0);
+    if out.len() < need {
+        return Written::TooShort(need);
+    }
+    Written::Text(put_mismatches(stats, other, out, 0))
+}
+
+// The lines of a comparison, in the order of the fields, as the Rust has them.
+fn put_mismatches(stats: TriggerStats, other: TriggerStats, out: &mut [u8], at: usize) -> usize
+    ensures { λ r. ⌜ Put (now (out .entry)) at (inOrder (mismatchIfAny stats other) counters) (now (out .exit)) r ⌝ }
+{
+    let got = stats.counts();
+    let expected = other.counts();
+    let mut next = at;
+    let mut field = 0;
+    while field < COUNTERS {
+        next = put_mismatch(out, next, field, expected[field], got[field]);
+        field += 1;
+    }
+    next
+}
+
+// The line of counter `k` in a comparison, or nothing where the two counts are equal.
+fn put_mismatch(out: &mut [u8], at: usize, k: usize, expected: u32, got: u32) -> usize
+    requires { ⌜ k < 20 ⌝ }
+    ensures { λ r. ⌜ Put (now (out .entry)) at (pick (eqb got expected) [] (mismatchOf (ascii (name (counterAt k))) expected got)) (now (out .exit)) r ⌝ }
+{
+    if got == expected {
+        return at;
+    }
+    let at = put_name(out, at, k);
+    let at = text::put_bytes(out, at, b" mismatch! expected: ");
+    let at = text_numbers::put_decimal(out, at, expected as u64);
+    let at = text::put_bytes(out, at, b", got: ");
+    let at = text_numbers::put_decimal(out, at, got as u64);
+    text::put_byte(out, at, b'\n')
+}
+
+// The name of counter `k`, without the blanks that fill it up.
+fn put_name(out: &mut [u8], at: usize, k: usize) -> usize
+    requires { ⌜ k < 20 ⌝ }
+    ensures { λ r. ⌜ Put (now (out .entry)) at (ascii (name (counterAt k))) (now (out .exit)) r ⌝ }
+{
+    let start = NAME_WIDTH * k;
+    let end = start + NAME_LENGTHS[k];
+    text::put_bytes(out, at, &NAMES[start..end])
+}

@@ -1,0 +1,416 @@
+/* Calls every door from C, and prints how many answers were right; `test layout` prints where each field of each struct stands, which the
+   Python tests hold against Rattle's structs and their own. Expected values are by hand, from the rules. */
+#include <kesarimbu.h>
+#include <stdio.h>
+#include <string.h>
+
+enum { SEVENTY_TWO = 72, PLACES = 4, TEXT = 2048 };
+
+static int passed, failed;
+
+static void check(bool is_right, int line)
+{
+    passed += is_right;
+    failed += !is_right;
+    if (!is_right)
+        printf("doors/test.c:%d: not as expected\n", line);
+}
+#define CHECK(condition) check(condition, __LINE__)
+
+/* A sound header of layer 5, stave 42 and link 2, with these sizes. */
+static struct kesarimbu_header sound(uint16_t offset, uint16_t memory)
+{
+    struct kesarimbu_header h = {0};
+    h.header_id = 7;
+    h.header_size = 64;
+    h.fee_id = 0x502A;
+    h.system_id = 32;
+    h.offset_new_packet = offset;
+    h.memory_size = memory;
+    h.link_id = 2;
+    h.cruid_dw = 1;
+    h.dataformat_reserved0 = 2;
+    h.trigger_type = 0x4813;
+    return h;
+}
+
+static bool starts_with(const uint8_t *text, size_t length, const char *expected)
+{
+    return length == strlen(expected) && memcmp(text, expected, length) == 0;
+}
+
+/* Byte n of the 64 is n, so that every field has a number of its own. */
+static void header_and_bytes(void)
+{
+    uint8_t bytes[KESARIMBU_HEADER_SIZE + 1], back[KESARIMBU_HEADER_SIZE + 1];
+    for (size_t i = 0; i < sizeof bytes; i++)
+        bytes[i] = (uint8_t)i;
+    struct kesarimbu_decoded d = kesarimbu_decode(bytes, sizeof bytes);
+    CHECK(d.refusal == 0);
+    CHECK(d.header.header_id == 0 && d.header.header_size == 1 && d.header.fee_id == 0x0302 && d.header.priority_bit == 4);
+    CHECK(d.header.system_id == 5 && d.header.rdh0_reserved0 == 0x0706);
+    CHECK(d.header.offset_new_packet == 0x0908 && d.header.memory_size == 0x0B0A && d.header.link_id == 12);
+    CHECK(d.header.packet_counter == 13 && d.header.cruid_dw == 0x0F0E);
+    CHECK(d.header.bc_reserved0 == 0x13121110 && d.header.orbit == 0x17161514);
+    CHECK(d.header.dataformat_reserved0 == 0x1F1E1D1C1B1A1918);
+    CHECK(d.header.trigger_type == 0x23222120 && d.header.pages_counter == 0x2524 && d.header.stop_bit == 38);
+    CHECK(d.header.rdh2_reserved0 == 39 && d.header.reserved1 == 0x2F2E2D2C2B2A2928);
+    CHECK(d.header.detector_field == 0x33323130 && d.header.par_bit == 0x3534 && d.header.rdh3_reserved0 == 0x3736);
+    CHECK(d.header.reserved2 == 0x3F3E3D3C3B3A3938);
+
+    memset(back, 0xAA, sizeof back);
+    CHECK(kesarimbu_encode(d.header, back, sizeof back) == 0);
+    CHECK(memcmp(back, bytes, KESARIMBU_HEADER_SIZE) == 0 && back[KESARIMBU_HEADER_SIZE] == 0xAA);
+    memset(back, 0xAA, sizeof back);
+    CHECK(kesarimbu_encode(d.header, back, KESARIMBU_HEADER_SIZE - 1) == KESARIMBU_FEWER_THAN_64 && back[0] == 0xAA);
+
+    struct kesarimbu_decoded none = {0};
+    none.refusal = KESARIMBU_FEWER_THAN_64;
+    d = kesarimbu_decode(bytes, KESARIMBU_HEADER_SIZE - 1);
+    CHECK(d.refusal == none.refusal && kesarimbu_equal(d.header, none.header));
+}
+
+static void parts_and_equality(void)
+{
+    struct kesarimbu_header h = sound(64, 64), other = h;
+    CHECK(kesarimbu_equal(h, other));
+    other.reserved2 = 1;
+    CHECK(!kesarimbu_equal(h, other));
+    h.cruid_dw = 0x2ABC;
+    h.bc_reserved0 = 0x12345DEB;
+    h.dataformat_reserved0 = 0x0102030405060708;
+    struct kesarimbu_header_parts p = kesarimbu_parts(h);
+    CHECK(p.cru_id == 0xABC && p.dw == 2 && p.bc == 0xDEB && p.bc_reserved == 0x12345 && p.data_format == 8);
+}
+
+static void rows(void)
+{
+    static const char row[] = "7     64     20522  32    64      2     0         0    0x10        2          0x4813    0        0      0x0";
+    struct kesarimbu_header h = sound(64, 64);
+    uint8_t out[TEXT];
+    h.orbit = 16;
+    memset(out, '~', sizeof out);
+    struct kesarimbu_text t = kesarimbu_row(h, out, sizeof out);
+    CHECK(t.refusal == 0 && starts_with(out, t.length, row) && out[t.length] == '~');
+    memset(out, '~', sizeof out);
+    t = kesarimbu_row(h, out, 3);
+    CHECK(t.refusal == KESARIMBU_BUFFER_TOO_SHORT && t.length == strlen(row) && out[0] == '~');
+}
+
+static struct kesarimbu_named named(const char *name)
+{
+    return kesarimbu_name((const uint8_t *)name, strlen(name));
+}
+
+static void staves(void)
+{
+    struct kesarimbu_fee_parts p = kesarimbu_fee(0x522A);
+    CHECK(p.layer == 5 && p.stave == 42 && p.uplink == 2);
+    CHECK(kesarimbu_fee_id(5, 42) == 0x502A && kesarimbu_fee_id(9, 70) == 0x1006);
+    CHECK(kesarimbu_same_stave(0x502A, 0x522A) && !kesarimbu_same_stave(0x502A, 0x502B));
+    CHECK(named("L5_42").refusal == 0 && named("L5_42").fee_id == 0x502A);
+    CHECK(named("L9_70").refusal == 0 && named("L9_70").fee_id == 0x1006);
+    CHECK(named("L5").refusal == KESARIMBU_NOT_A_STAVE_NAME && named("L5").fee_id == 0);
+    CHECK(named("").refusal == KESARIMBU_NOT_A_STAVE_NAME);
+}
+
+static void verdicts(void)
+{
+    struct kesarimbu_validator v = {0};
+    struct kesarimbu_header h = sound(64, 64);
+    uint8_t text[TEXT];
+    memset(text, '~', sizeof text);
+    h.header_size = 63;
+    struct kesarimbu_checked c = kesarimbu_check(v, h, text, 3);
+    CHECK(c.refusal == KESARIMBU_BUFFER_TOO_SHORT && !c.sound && text[0] == '~' && !c.validator.settled);
+    size_t needed = c.length;
+    c = kesarimbu_check(v, h, text, needed);
+    CHECK(c.refusal == 0 && !c.sound && c.length == needed && text[needed] == '~');
+    CHECK(starts_with(text, c.length, "[E10] RDH sanity check failed: RDH0: Header size = 0x3f "));
+    CHECK(c.validator.settled && !c.validator.configured && c.validator.id == 7 && !c.validator.its);
+    h = sound(64, 64);
+    c = kesarimbu_check(c.validator, h, text, 0);
+    CHECK(c.refusal == 0 && c.sound && c.length == 0);
+    h.header_id = 6;
+    c = kesarimbu_check(c.validator, h, text, sizeof text);
+    CHECK(!c.sound && c.validator.id == 7);
+    v.configured = true;
+    v.id = 6;
+    c = kesarimbu_check(v, h, text, sizeof text);
+    CHECK(c.sound && c.validator.configured && c.validator.id == 6 && !c.validator.settled);
+    v.its = true;
+    h.system_id = 33;
+    c = kesarimbu_check(v, h, text, sizeof text);
+    CHECK(!c.sound && c.validator.its);
+}
+
+static void triggers(void)
+{
+    static const uint32_t words[] = {0x4813, 0x80000001};
+    static const char lines[] = "orbit mismatch! expected: 0, got: 2\n";
+    struct kesarimbu_trigger_counts none = {0}, c = kesarimbu_count_triggers(none, words, 2);
+    uint8_t out[TEXT];
+    CHECK(c.orbit == 2 && c.hb == 1 && c.hbr == 0 && c.pht == 1 && c.tf == 1 && c.rs == 1 && c.tof == 1 && c.tpc_rst == 0);
+    struct kesarimbu_text t = kesarimbu_trigger_list(c, out, sizeof out);
+    CHECK(t.refusal == 0 && memcmp(out, "Trigger statistics:\n  Orbit:         2\n", 39) == 0);
+    CHECK(kesarimbu_trigger_list(c, out, 3).refusal == KESARIMBU_BUFFER_TOO_SHORT);
+    struct kesarimbu_trigger_counts other = c;
+    other.orbit = 0;
+    t = kesarimbu_trigger_compare(c, other, out, sizeof out);
+    CHECK(t.refusal == 0 && starts_with(out, t.length, lines));
+    CHECK(kesarimbu_trigger_compare(c, c, out, 0).length == 0);
+    CHECK(kesarimbu_trigger_compare(c, other, out, 3).length == strlen(lines));
+}
+
+/* A recording of three packets of 72, 64 and 72 bytes, from links 2, 3 and 2. */
+struct recording {
+    uint8_t bytes[2 * SEVENTY_TWO + KESARIMBU_HEADER_SIZE];
+};
+
+static struct recording recorded(void)
+{
+    struct recording r;
+    struct kesarimbu_header second = sound(64, 64);
+    second.link_id = 3;
+    second.fee_id = 0x1001;
+    memset(r.bytes, 0xEE, sizeof r.bytes);
+    kesarimbu_encode(sound(SEVENTY_TWO, SEVENTY_TWO), r.bytes, sizeof r.bytes);
+    kesarimbu_encode(second, r.bytes + SEVENTY_TWO, KESARIMBU_HEADER_SIZE);
+    kesarimbu_encode(sound(SEVENTY_TWO, SEVENTY_TWO), r.bytes + SEVENTY_TWO + KESARIMBU_HEADER_SIZE, KESARIMBU_HEADER_SIZE);
+    return r;
+}
+
+/* What a scan is lent. */
+struct lent {
+    uint8_t links[KESARIMBU_LINKS];
+    uint16_t fee_ids[PLACES];
+    uint8_t header[KESARIMBU_HEADER_SIZE];
+};
+
+static void examinations(void)
+{
+    struct recording r = recorded();
+    struct lent lent = {{0}, {0}, {0}};
+    struct kesarimbu_settings by_link = {.by_link = true, .link = 3, .stats = true};
+    struct kesarimbu_state begin = {0};
+    struct kesarimbu_reply e = kesarimbu_examine(by_link, begin, lent.links, lent.fee_ids, PLACES, r.bytes, 63, 0, false, lent.header);
+    CHECK(e.answer.kind == KESARIMBU_WANT && e.answer.want_place == 0 && e.answer.want_size == 64 && e.state.seen == 0);
+    e = kesarimbu_examine(by_link, e.state, lent.links, lent.fee_ids, PLACES, r.bytes, 64, 0, false, lent.header);
+    CHECK(e.answer.kind == KESARIMBU_PASSED && lent.header[0] == 0 && e.state.load_open && e.state.load_start == 0);
+    CHECK(e.marks.initial && e.marks.trigger_type == 0x4813 && e.marks.data_format == 2 && e.marks.system_id == 32);
+    CHECK(e.state.place == SEVENTY_TWO && e.state.position == SEVENTY_TWO && e.state.seen == 1 && e.state.filtered == 0);
+    e = kesarimbu_examine(by_link, e.state, lent.links, lent.fee_ids, PLACES, r.bytes + 1, sizeof r.bytes - 1, 1, true, lent.header);
+    CHECK(e.answer.kind == KESARIMBU_PACKET && e.answer.position == 0 && e.answer.payload_length == 0 && !e.marks.initial);
+    CHECK(memcmp(lent.header, r.bytes + SEVENTY_TWO, sizeof lent.header) == 0 && !e.state.load_open);
+    CHECK(e.state.links_used == 2 && lent.links[0] == 2 && lent.links[1] == 3);
+    CHECK(e.state.fee_ids_used == 2 && lent.fee_ids[0] == 0x502A && lent.fee_ids[1] == 0x1001 && lent.fee_ids[2] == 0);
+    e = kesarimbu_examine(by_link, e.state, lent.links, lent.fee_ids, 1, r.bytes, sizeof r.bytes, 0, true, lent.header);
+    CHECK(e.answer.kind == KESARIMBU_REFUSED && e.answer.refusal == KESARIMBU_UNUSABLE && e.state.seen == 2);
+}
+
+static void loads(void)
+{
+    struct recording r = recorded();
+    struct lent lent = {{0}, {0}, {0}};
+    struct kesarimbu_settings settings = {.by_stave = true, .stave = 0x522A, .stats = true};
+    struct kesarimbu_reply l = {0};
+    l = kesarimbu_load(settings, l.state, lent.links, lent.fee_ids, PLACES, r.bytes, sizeof r.bytes - 1, 0, true, lent.header);
+    CHECK(l.answer.kind == KESARIMBU_PACKET && l.answer.payload_start == 64 && l.answer.payload_length == 8);
+    l = kesarimbu_load(settings, l.state, lent.links, lent.fee_ids, PLACES, r.bytes, sizeof r.bytes - 1, 0, true, lent.header);
+    CHECK(l.answer.kind == KESARIMBU_PACKET && l.answer.position == SEVENTY_TWO && l.answer.payload_length == 0 && l.marks.payload_cut);
+    CHECK(l.state.seen == 3 && l.state.filtered == 2 && l.state.payload == 16);
+    l = kesarimbu_load(settings, l.state, lent.links, lent.fee_ids, PLACES, r.bytes, sizeof r.bytes - 1, 0, true, lent.header);
+    CHECK(l.answer.kind == KESARIMBU_REFUSED && l.answer.refusal == KESARIMBU_END);
+    struct kesarimbu_state begin = {0};
+    r.bytes[8] = 63;
+    l = kesarimbu_load(settings, begin, lent.links, lent.fee_ids, PLACES, r.bytes, sizeof r.bytes, 0, true, lent.header);
+    CHECK(l.answer.kind == KESARIMBU_REFUSED && l.answer.refusal == KESARIMBU_OFFSET && l.answer.distance == -1);
+}
+
+static void listings(void)
+{
+    static const char last[] = "seen 3\nfiltered 0\npayload 16\nend 1\n";
+    struct recording r = recorded();
+    struct lent lent = {{0}, {0}, {0}};
+    struct kesarimbu_settings settings = {.stats = true};
+    struct kesarimbu_listed l = {0};
+    uint8_t out[TEXT];
+    r.bytes[1] = 63;
+    l = kesarimbu_list(settings, l.state, l.validator, lent.links, lent.fee_ids, PLACES, r.bytes, sizeof r.bytes, 0, true, out, 1023);
+    CHECK(l.answer.kind == KESARIMBU_REFUSED && l.answer.refusal == KESARIMBU_BUFFER_TOO_SHORT && l.length == KESARIMBU_LEAST_ROOM);
+    CHECK(l.state.seen == 0 && !l.validator.settled);
+    l = kesarimbu_list(settings, l.state, l.validator, lent.links, lent.fee_ids, PLACES, r.bytes, 100, 0, false, out, 1024);
+    CHECK(l.answer.kind == KESARIMBU_FULL && l.unsound == 1 && memcmp(out, "0x0: 7 ", 7) == 0 && l.validator.settled);
+    l = kesarimbu_list(settings, l.state, l.validator, lent.links, lent.fee_ids, PLACES, r.bytes, 100, 0, false, out, sizeof out);
+    CHECK(l.answer.kind == KESARIMBU_WANT && l.answer.want_place == SEVENTY_TWO && l.answer.want_size == 64 && l.length == 0);
+    l = kesarimbu_list(settings, l.state, l.validator, lent.links, lent.fee_ids, PLACES, r.bytes, sizeof r.bytes, 0, true, out, sizeof out);
+    CHECK(l.answer.kind == KESARIMBU_REFUSED && l.answer.refusal == KESARIMBU_END && l.unsound == 0 && l.state.seen == 3);
+    CHECK(memcmp(out, "0x48: 7 ", 8) == 0 && memcmp(out + l.length - strlen(last), last, strlen(last)) == 0);
+}
+
+#define SIZE(s) printf("struct %s size %zu\n", #s, sizeof(struct s))
+#define FIELD(s, f) printf("%s.%s offset %zu size %zu\n", #s, #f, offsetof(struct s, f), sizeof(((struct s *)0)->f))
+
+static void layout_of_headers(void)
+{
+    SIZE(kesarimbu_header);
+    FIELD(kesarimbu_header, header_id);
+    FIELD(kesarimbu_header, header_size);
+    FIELD(kesarimbu_header, fee_id);
+    FIELD(kesarimbu_header, priority_bit);
+    FIELD(kesarimbu_header, system_id);
+    FIELD(kesarimbu_header, rdh0_reserved0);
+    FIELD(kesarimbu_header, offset_new_packet);
+    FIELD(kesarimbu_header, memory_size);
+    FIELD(kesarimbu_header, link_id);
+    FIELD(kesarimbu_header, packet_counter);
+    FIELD(kesarimbu_header, cruid_dw);
+    FIELD(kesarimbu_header, bc_reserved0);
+    FIELD(kesarimbu_header, orbit);
+    FIELD(kesarimbu_header, dataformat_reserved0);
+    FIELD(kesarimbu_header, trigger_type);
+    FIELD(kesarimbu_header, pages_counter);
+    FIELD(kesarimbu_header, stop_bit);
+    FIELD(kesarimbu_header, rdh2_reserved0);
+    FIELD(kesarimbu_header, reserved1);
+    FIELD(kesarimbu_header, detector_field);
+    FIELD(kesarimbu_header, par_bit);
+    FIELD(kesarimbu_header, rdh3_reserved0);
+    FIELD(kesarimbu_header, reserved2);
+    SIZE(kesarimbu_decoded);
+    FIELD(kesarimbu_decoded, header);
+    FIELD(kesarimbu_decoded, refusal);
+    SIZE(kesarimbu_header_parts);
+    FIELD(kesarimbu_header_parts, bc_reserved);
+    FIELD(kesarimbu_header_parts, bc);
+    FIELD(kesarimbu_header_parts, cru_id);
+    FIELD(kesarimbu_header_parts, dw);
+    FIELD(kesarimbu_header_parts, data_format);
+}
+
+static void layout_of_texts_and_names(void)
+{
+    SIZE(kesarimbu_text);
+    FIELD(kesarimbu_text, length);
+    FIELD(kesarimbu_text, refusal);
+    SIZE(kesarimbu_fee_parts);
+    FIELD(kesarimbu_fee_parts, layer);
+    FIELD(kesarimbu_fee_parts, stave);
+    FIELD(kesarimbu_fee_parts, uplink);
+    SIZE(kesarimbu_named);
+    FIELD(kesarimbu_named, refusal);
+    FIELD(kesarimbu_named, fee_id);
+    SIZE(kesarimbu_validator);
+    FIELD(kesarimbu_validator, configured);
+    FIELD(kesarimbu_validator, settled);
+    FIELD(kesarimbu_validator, id);
+    FIELD(kesarimbu_validator, its);
+    SIZE(kesarimbu_checked);
+    FIELD(kesarimbu_checked, length);
+    FIELD(kesarimbu_checked, refusal);
+    FIELD(kesarimbu_checked, sound);
+    FIELD(kesarimbu_checked, validator);
+}
+
+static void layout_of_triggers(void)
+{
+    SIZE(kesarimbu_trigger_counts);
+    FIELD(kesarimbu_trigger_counts, orbit);
+    FIELD(kesarimbu_trigger_counts, hb);
+    FIELD(kesarimbu_trigger_counts, hbr);
+    FIELD(kesarimbu_trigger_counts, hc);
+    FIELD(kesarimbu_trigger_counts, pht);
+    FIELD(kesarimbu_trigger_counts, pp);
+    FIELD(kesarimbu_trigger_counts, cal);
+    FIELD(kesarimbu_trigger_counts, sot);
+    FIELD(kesarimbu_trigger_counts, eot);
+    FIELD(kesarimbu_trigger_counts, soc);
+    FIELD(kesarimbu_trigger_counts, eoc);
+    FIELD(kesarimbu_trigger_counts, tf);
+    FIELD(kesarimbu_trigger_counts, fe_rst);
+    FIELD(kesarimbu_trigger_counts, rt);
+    FIELD(kesarimbu_trigger_counts, rs);
+    FIELD(kesarimbu_trigger_counts, lhc_gap1);
+    FIELD(kesarimbu_trigger_counts, lhc_gap2);
+    FIELD(kesarimbu_trigger_counts, tpc_sync);
+    FIELD(kesarimbu_trigger_counts, tpc_rst);
+    FIELD(kesarimbu_trigger_counts, tof);
+}
+
+static void layout_of_a_scan(void)
+{
+    SIZE(kesarimbu_settings);
+    FIELD(kesarimbu_settings, by_link);
+    FIELD(kesarimbu_settings, by_fee);
+    FIELD(kesarimbu_settings, by_stave);
+    FIELD(kesarimbu_settings, link);
+    FIELD(kesarimbu_settings, fee);
+    FIELD(kesarimbu_settings, stave);
+    FIELD(kesarimbu_settings, skip_payload);
+    FIELD(kesarimbu_settings, stats);
+    SIZE(kesarimbu_state);
+    FIELD(kesarimbu_state, place);
+    FIELD(kesarimbu_state, position);
+    FIELD(kesarimbu_state, load_start);
+    FIELD(kesarimbu_state, links_used);
+    FIELD(kesarimbu_state, fee_ids_used);
+    FIELD(kesarimbu_state, seen);
+    FIELD(kesarimbu_state, filtered);
+    FIELD(kesarimbu_state, payload);
+    FIELD(kesarimbu_state, load_open);
+    SIZE(kesarimbu_answer);
+    FIELD(kesarimbu_answer, position);
+    FIELD(kesarimbu_answer, want_place);
+    FIELD(kesarimbu_answer, want_size);
+    FIELD(kesarimbu_answer, payload_start);
+    FIELD(kesarimbu_answer, payload_length);
+    FIELD(kesarimbu_answer, kind);
+    FIELD(kesarimbu_answer, refusal);
+    FIELD(kesarimbu_answer, distance);
+}
+
+static void layout_of_replies(void)
+{
+    SIZE(kesarimbu_marks);
+    FIELD(kesarimbu_marks, seen_carries);
+    FIELD(kesarimbu_marks, trigger_type);
+    FIELD(kesarimbu_marks, data_format);
+    FIELD(kesarimbu_marks, system_id);
+    FIELD(kesarimbu_marks, initial);
+    FIELD(kesarimbu_marks, filtered_carry);
+    FIELD(kesarimbu_marks, payload_carry);
+    FIELD(kesarimbu_marks, payload_cut);
+    SIZE(kesarimbu_reply);
+    FIELD(kesarimbu_reply, answer);
+    FIELD(kesarimbu_reply, marks);
+    FIELD(kesarimbu_reply, state);
+    SIZE(kesarimbu_listed);
+    FIELD(kesarimbu_listed, answer);
+    FIELD(kesarimbu_listed, state);
+    FIELD(kesarimbu_listed, validator);
+    FIELD(kesarimbu_listed, length);
+    FIELD(kesarimbu_listed, unsound);
+}
+
+int main(int argc, char **argv)
+{
+    if (argc == 2 && strcmp(argv[1], "layout") == 0) {
+        layout_of_headers();
+        layout_of_texts_and_names();
+        layout_of_triggers();
+        layout_of_a_scan();
+        layout_of_replies();
+        return 0;
+    }
+    header_and_bytes();
+    parts_and_equality();
+    rows();
+    staves();
+    verdicts();
+    triggers();
+    examinations();
+    loads();
+    listings();
+    printf("%d passed, %d failed\n", passed, failed);
+    return failed != 0;
+}
