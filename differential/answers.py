@@ -1,15 +1,16 @@
-"""Case lines put to the two programs, and their answers. README.md describes both."""
+"""Case lines, and what the Rust answers to them. README.md describes both; port.py gives the answers of the module."""
 import subprocess
 import sys
+import tempfile
 from pathlib import Path
 
 HERE = Path(__file__).resolve().parent
 TARGET = HERE.parent / "target"
 DRIVER = TARGET / "differential/driver"
-PORT = TARGET / "bin/compare"
+DATA = HERE.parent / "python/tests/data"  # the stored cases and answers
 
 # The first words of lines that set something up and have no answer, and of those that forget what was set up before.
-SETS_UP = {"recording", "bytes", "repeat", "validator", "triggers", "first", "second", "again"}
+SETS_UP = {"recording", "bytes", "repeat", "validator", "triggers", "first", "second", "again", "settings", "state", "links", "fees"}
 FORGETS = {"recording", "validator", "triggers"}
 
 
@@ -36,18 +37,22 @@ def cases(lines):
             set_up = []
 
 
-def answers(program, lines):
-    """The lines of each answer, without the '.' that ends it."""
-    with (TARGET / f"differential/{program.name}.answers").open("w+b") as out:
-        subprocess.run([program], input="".join(f"{line}\n" for line in lines).encode(), stdout=out, check=True)
+def rust_answers(lines):
+    """The lines of each answer of the Rust, without the '.' that ends it."""
+    with tempfile.TemporaryFile() as out:
+        subprocess.run([DRIVER], input="".join(f"{line}\n" for line in lines).encode(), stdout=out, check=True)
         out.seek(0)
-        answer = []
-        for line in out:
-            line = line.decode(errors="backslashreplace").rstrip("\n")
-            if line == ".":
-                yield answer
-                answer = []
-            else:
-                answer.append(line)
-        if answer:
+        yield from parted(line.decode(errors="backslashreplace").rstrip("\n") for line in out)
+
+
+def parted(lines):
+    """The lines of each answer among the lines of many."""
+    answer = []
+    for line in lines:
+        if line == ".":
             yield answer
+            answer = []
+        else:
+            answer.append(line)
+    if answer:
+        yield answer

@@ -1,11 +1,12 @@
 #!/usr/bin/env python3
-"""Compares the listing program with the Rust's listing, on the recordings that make_recordings.py makes.
+"""Compares the listing program and the Python module's listing with the Rust's, on the recordings that make_recordings.py makes.
 
     compare_listings.py FIRST LAST          for the seeds FIRST to LAST
 
 The two listings of a recording must be the same bytes. Where ours ends with a refusal that is added (3, 4 or 6), the lines before the
-counts must be the first ones of the Rust's, which goes on. Each recording is read three times: as a file, through a pipe in pieces of
-random lengths, and, if it is short, through a pipe that gives a byte at a time. The last line is 'N passed, M failed'.
+counts must be the first ones of the Rust's, which goes on. The program reads each recording three times: as a file, through a pipe in
+pieces of random lengths, and, if it is short, through a pipe that gives a byte at a time. The module reads it as a file. The last line is
+'N passed, M failed'.
 """
 import random
 import subprocess
@@ -13,9 +14,11 @@ import sys
 import tempfile
 from pathlib import Path
 
+HERE = Path(__file__).resolve().parent.parent
+sys.path.insert(0, str(HERE / "python"))
+from kesarimbu import Listing
 from make_recordings import every
 
-HERE = Path(__file__).resolve().parent.parent
 LISTING = HERE / "target/bin/listing"
 DRIVER = HERE / "target/differential/driver"
 SHORT = 4096
@@ -44,7 +47,13 @@ def from_pipe(recording, sizes):
         return out.read()
 
 
+def from_module(path):
+    with Listing(path) as listing:
+        return b"".join(listing)
+
+
 def readings(path, recording, rng):
+    yield "module", from_module(path)
     yield "file", from_file(path)
     yield "pipe", from_pipe(recording, iter(lambda: rng.choice([1, 7, 63, 64, 65, 1000, 4096, 70000]), None))
     if len(recording) <= SHORT:

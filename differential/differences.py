@@ -3,7 +3,7 @@ from itertools import accumulate
 
 
 def difference(case, rust):
-    """The kind of the difference that is due, and how the port's answer has to start; or none."""
+    """The kind of the difference that is due, and how the answer here has to start; or none."""
     word, *words = case.split(" ")
     match word:
         case "header" if rust == ["panic"]:

@@ -1,7 +1,7 @@
 #!/usr/bin/env python3
 """Prints case lines on scans. README.md describes the lines; scan_model.py gives their answers.
 
-    make_scan_cases.py stored              those of crates/input_scanner_cases, by hand, in the order of the functions below
+    make_scan_cases.py stored              those of python/tests/data/model_cases.txt, by hand, in the order of the functions below
     make_scan_cases.py random SEED COUNT   single calls with settings, state, lists and window taken at random near their edges
 """
 import random

@@ -1,7 +1,7 @@
 #!/usr/bin/env python3
 """The scan as the rules state it, apart from any program, and what it answers to case lines on scans. README.md describes the lines.
 
-    scan_model.py           answers the case lines on standard input: what crates/input_scanner_cases must print
+    scan_model.py           answers the case lines on standard input
     scan_model.py selftest  holds examinations on windows against the chain over whole recordings
 
 The first part follows the rules step by step, with the steps' numbers; it does nothing to be fast.

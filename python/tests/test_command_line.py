@@ -1,0 +1,249 @@
+"""The command line: what it prints, its exit status, and that it prints what the listing program prints."""
+import contextlib
+import io
+import os
+import pty
+import subprocess
+import sys
+import unittest
+
+from kesarimbu.__main__ import main
+from .differential import ROOT
+from .sources import file_with
+from make_recordings import every, header
+
+SAMPLE = ROOT / "samples/staves.raw"
+LISTING_PROGRAM = ROOT / "target/bin/listing"
+
+# The example of the papers: two headers, and what is to be printed.
+TWO = header(link=2, cru_dw=1, orbit=16) + header(link=2, cru_dw=1, orbit=16, counter=1, pages=1, stop=1)
+TWO_LISTED = b"""\
+0x0: 7     64     20522  32    64      2     0         0    0x10        2          0x4813    0        0      0x0
+0x40: 7     64     20522  32    64      2     1         0    0x10        2          0x4813    1        1      0x0
+seen 2
+filtered 0
+payload 0
+end 1
+"""
+# A bunch counter that is too high, a stave on layer 6 that there is not, a header ID of its own, and a system id that is not the ITS's.
+HIGH_BC = header(bc_reserved=0xDEC)
+NO_STAVE = header(fee_id=0x6030)
+VERSION_6 = header(header_id=6)
+NOT_ITS = header(system_id=33)
+LAST_LINES = b"seen %d\nfiltered %d\npayload %d\nend %d\n"
+
+
+def run_here(*words):
+    """Runs the command line in this process, which is faster: exit status, output and errors."""
+    out, errors = io.TextIOWrapper(io.BytesIO()), io.StringIO()
+    with contextlib.redirect_stdout(out), contextlib.redirect_stderr(errors):
+        try:
+            status = main(list(map(str, words)))
+        except SystemExit as ended:
+            status = ended.code
+    return status, out.buffer.getvalue(), errors.getvalue()
+
+
+def run(*words, library=None, **how):
+    """Runs the command line as a program of its own."""
+    environment = {**os.environ, "PYTHONPATH": str(ROOT / "python"), "COLUMNS": "200"}
+    if library is not None:
+        environment["KESARIMBU_LIBRARY"] = library
+    command = [sys.executable, "-m", "kesarimbu", *map(str, words)]
+    return subprocess.run(command, env=environment, stdout=how.pop("stdout", subprocess.PIPE), stderr=subprocess.PIPE, timeout=60, **how)
+
+
+class Lists(unittest.TestCase):
+    def listed(self, recording, *words):
+        """Exit status and output of a listing."""
+        with file_with(recording) as path:
+            status, output, errors = run_here("list", *words, path)
+        self.assertEqual(errors, "")
+        return status, output
+
+    def test_the_example(self):
+        self.assertEqual(self.listed(TWO), (0, TWO_LISTED))
+
+    def test_the_example_as_a_program(self):
+        with file_with(TWO) as path, open(path, "rb") as file:
+            for done in (run("list", path), run("list", "-", stdin=file), run("list", "-", input=TWO)):
+                self.assertEqual((done.returncode, done.stdout, done.stderr), (0, TWO_LISTED, b""))
+
+    def test_nothing(self):
+        for length in (0, 1, 63):
+            self.assertEqual(self.listed(TWO[:length]), (0, LAST_LINES % (0, 0, 0, 1)))
+
+    def test_a_packet_that_is_not_sound(self):
+        status, output = self.listed(HIGH_BC + TWO)
+        self.assertEqual((status, output.splitlines()[1]), (1, b"0x0: [E10] RDH sanity check failed: RDH1: BC = 0xdec "))
+        self.assertTrue(output.endswith(LAST_LINES % (3, 0, 0, 1)))
+
+    def test_a_chain_that_cannot_be_followed(self):
+        self.assertEqual(self.listed(header(offset=63)), (1, LAST_LINES % (1, 0, 0, 2)))
+
+    def test_a_memory_size_below_64(self):
+        self.assertEqual(self.listed(header(memory=63)), (1, LAST_LINES % (1, 0, 0, 3)))
+
+    def test_a_payload_that_is_cut_adds_nothing(self):
+        cut = header(offset=74, memory=74) + bytes(9)
+        status, output = self.listed(cut)
+        self.assertEqual((status, output.splitlines()[1:]), (0, (LAST_LINES % (1, 0, 10, 1)).splitlines()))
+
+    def test_filters(self):
+        recording = header(link=2) + header(link=3, fee_id=0x0006) + NO_STAVE
+        for words in (["--link", "3"], ["--link=0x03"], ["--fee", "6"], ["--fee", "0x6"], ["--stave", "L0_6"],
+                      ["--link", "3", "--fee", "9"]):
+            with self.subTest(words):
+                status, output = self.listed(recording, *words)
+                self.assertEqual((status, output.splitlines()[1:]), (0, (LAST_LINES % (3, 1, 0, 1)).splitlines()))
+                self.assertTrue(output.startswith(b"0x0: 7     64     6 "))
+
+    def test_a_version(self):
+        for version, status in (("6", 0), ("0x06", 0), ("7", 1)):
+            self.assertEqual(self.listed(VERSION_6, "--version", version)[0], status)
+        self.assertEqual([self.listed(first + second)[0] for first, second in [(VERSION_6, VERSION_6), (VERSION_6, TWO)]], [0, 1])
+
+    def test_the_its(self):
+        self.assertEqual([self.listed(NOT_ITS)[0], self.listed(NOT_ITS, "--its")[0], self.listed(TWO, "--its")[0]], [0, 1, 0])
+
+    def test_no_payload(self):
+        # The memory size is below the offset: reading payload, the scan comes upon the noise between.
+        recording = header(offset=164, memory=84) + b"\xff" * 100 + TWO
+        self.assertEqual(self.listed(recording, "--no-payload")[1].count(b"\n"), 3 + 4)
+        self.assertNotEqual(self.listed(recording)[0], 0)
+        self.assertEqual(run("list", "--no-payload", "-", input=recording).stdout, self.listed(recording, "--no-payload")[1])
+
+
+class LikeTheListingProgram(unittest.TestCase):
+    def setUp(self):
+        self.assertTrue(LISTING_PROGRAM.exists(), f"{LISTING_PROGRAM} is not there: `rt check listing` builds it")
+
+    def hold(self, recording):
+        program = subprocess.run([LISTING_PROGRAM], input=recording, stdout=subprocess.PIPE, check=True)
+        self.assertEqual(run("list", "-", input=recording).stdout, program.stdout)
+
+    def test_the_sample(self):
+        self.hold(SAMPLE.read_bytes())
+
+    def test_a_recording_larger_than_every_buffer(self):
+        self.hold(b"".join(recording for name, recording in every(6) if name == "sound-1") * 200)
+
+    def test_damaged_recordings(self):
+        recordings = dict(every(7))
+        for name in ("gaps-2", "memory_sizes-2", "offsets-7", "stumbles-0", "cuts-5", "short-3", "flipped-0", "noise-1"):
+            with self.subTest(name):
+                self.hold(recordings[name])
+
+
+class Misuse(unittest.TestCase):
+    def hold(self, words, said):
+        status, output, errors = run_here(*words)
+        self.assertEqual((status, output), (2, b""))
+        self.assertRegex(errors, r"\Ausage: python3 -m kesarimbu")
+        self.assertIn(said, errors)
+
+    def test_words_that_are_not_understood(self):
+        for words, said in [
+                ([], "COMMAND"), (["show"], "invalid choice: 'show'"), (["list"], "FILE"), (["list", "a", "b"], "b"),
+                (["list", "--links", "3", SAMPLE], "--links"), (["list", "--its=1", SAMPLE], "--its"), (["list", "--i", SAMPLE], "--i"),
+                (["list", "--link", "256", SAMPLE], "256 is above 255"), (["list", "--fee", "0x10000", SAMPLE], "0x10000 is above 65535"),
+                (["list", "--link", "-1", SAMPLE], "--link"), (["list", "--link", "3x", SAMPLE], "'3x' is not a number"),
+                (["list", "--link", "1_0", SAMPLE], "not a number"), (["list", "--link", "", SAMPLE], "not a number"),
+                (["list", "--link", "0x", SAMPLE], "not a number"), (["list", "--version", "-", SAMPLE], "--version")]:
+            with self.subTest(words):
+                self.hold(words, said)
+
+    def test_a_name_that_is_no_stave(self):
+        for name in ("L5", "", "L5_42_1", "\udcff5_42"):
+            with self.subTest(name):
+                self.hold(["list", "--stave", name, SAMPLE], "not a stave name")
+
+    def test_a_file_that_cannot_be_read(self):
+        self.hold(["list", ROOT / "no such file"], "No such file or directory")
+        self.hold(["list", ROOT], "Is a directory")
+
+    def test_the_exit_status_of_the_program(self):
+        done = run("list", "--stave", "L5", SAMPLE)
+        self.assertEqual((done.returncode, done.stdout), (2, b""))
+        self.assertIn(b"usage: ", done.stderr)
+
+    def test_standard_input_that_is_closed(self):
+        done = run("list", "-", preexec_fn=lambda: os.close(0))
+        self.assertEqual(done.returncode, 2)
+        self.assertIn(b"cannot read -", done.stderr)
+
+
+class Surroundings(unittest.TestCase):
+    def test_help(self):
+        for words, said in [(["--help"], b"list"), (["list", "--help"], b"--no-payload")]:
+            done = run(*words)
+            self.assertEqual((done.returncode, done.stderr), (0, b""))
+            self.assertIn(said, done.stdout)
+            self.assertLessEqual(max(map(len, done.stdout.splitlines())), 100)
+
+    def test_a_library_that_is_missing(self):
+        for words in (["-c", "import kesarimbu"], ["-m", "kesarimbu", "list", str(SAMPLE)]):
+            environment = {**os.environ, "PYTHONPATH": str(ROOT / "python"), "KESARIMBU_LIBRARY": "/no/such/library.so"}
+            done = subprocess.run([sys.executable, *words], env=environment, stdout=subprocess.PIPE, stderr=subprocess.PIPE)
+            self.assertNotEqual(done.returncode, 0)
+            told = done.stderr.decode().splitlines()[-1]
+            for part in ("ImportError", "/no/such/library.so", "doors/build", "KESARIMBU_LIBRARY"):
+                self.assertIn(part, told)
+
+    def test_a_library_that_is_another(self):
+        done = run("list", SAMPLE, library="libc.so.6")
+        self.assertIn("libc.so.6 has no function kesarimbu_decode", done.stderr.decode().splitlines()[-1])
+
+    def test_a_reader_that_has_seen_enough(self):
+        reading, writing = os.pipe()
+        os.close(reading)
+        with file_with(TWO * 10000) as path, open(writing, "wb") as closed:
+            done = run("list", path, stdout=closed)
+        self.assertEqual((done.returncode, done.stderr), (1, b""))
+
+    @unittest.skipUnless(os.path.exists("/dev/full"), "there is no /dev/full")
+    def test_an_output_that_is_full(self):
+        with open("/dev/full", "wb") as full:
+            done = run("list", SAMPLE, stdout=full)
+        self.assertEqual(done.returncode, 2)
+        self.assertIn(b"cannot write the output: No space left on device", done.stderr)
+
+
+class OnATerminal(unittest.TestCase):
+    """Progress is told on standard error if that is a terminal and the file is large."""
+
+    def told(self, size):
+        """What is told of a file of so many bytes: one header, and nothing behind it is ever read."""
+        end, terminal = pty.openpty()
+        program = ("import sys; from kesarimbu import progress; progress.PAUSE = 0; from kesarimbu.__main__ import main; "
+                   "sys.exit(main(sys.argv[1:]))")
+        environment = {**os.environ, "PYTHONPATH": str(ROOT / "python")}
+        try:
+            with file_with(TWO) as path:
+                os.truncate(path, size)
+                done = subprocess.run([sys.executable, "-c", program, "list", path], env=environment, stdout=subprocess.PIPE,
+                                      stderr=terminal, timeout=60)
+            os.set_blocking(end, False)
+            return done.returncode, self.waiting_at(end)
+        finally:
+            os.close(end)
+            os.close(terminal)
+
+    def waiting_at(self, end):
+        try:
+            return os.read(end, 4096)
+        except BlockingIOError:
+            return b""
+
+    def test_a_large_file(self):
+        status, said = self.told(1 << 30)
+        self.assertEqual(status, 1)
+        self.assertIn(b"0 % of 1.0 GiB", said)
+        self.assertTrue(said.endswith(b" \r"))
+
+    def test_a_small_file(self):
+        self.assertEqual(self.told(1000), (1, b""))
+
+
+if __name__ == "__main__":
+    unittest.main()

@@ -1,0 +1,101 @@
+"""The structs that cross are the same in Rattle, C and Python: names, sizes, and where each field stands."""
+import ctypes
+import re
+import subprocess
+import unittest
+
+from kesarimbu import structs
+from .differential import ROOT
+
+PROGRAM = ROOT / "target/doors/test"
+
+# The sizes of Rattle's types, by which C aligns them too.
+SIZES = {"bool": 1, "u8": 1, "u16": 2, "u32": 4, "i32": 4, "u64": 8, "usize": ctypes.sizeof(ctypes.c_size_t)}
+STRUCT = re.compile(r"#\[repr\(C\)\]\s*pub struct Plain(\w+) \{(.*?)\n\}", re.DOTALL)
+FIELD = re.compile(r"^ *pub (\w+): (\w+),", re.MULTILINE)
+
+
+def c_name(name):
+    """HeaderParts is kesarimbu_header_parts in C."""
+    return "kesarimbu" + re.sub("[A-Z]", lambda letter: "_" + letter[0].lower(), name)
+
+
+def size_line(name, size):
+    return f"struct {c_name(name)} size {size}"
+
+
+def field_line(name, field, offset, size):
+    return f"{c_name(name)}.{field} offset {offset} size {size}"
+
+
+def up_to(place, alignment):
+    """The first place from this one on that is a multiple of the alignment."""
+    return -(-place // alignment) * alignment
+
+
+class RattleStructs:
+    """The structs that the doors' sources declare, laid out by C's rules."""
+
+    def __init__(self):
+        self.structs = {}
+        for path in sorted(ROOT.glob("crates/doors_*/src/**/*.rt")):
+            for name, body in STRUCT.findall(path.read_text()):
+                self.structs[name] = FIELD.findall(body)
+
+    def measures(self, kind):
+        """The size and the alignment of a type."""
+        if kind in SIZES:
+            return SIZES[kind], SIZES[kind]
+        fields, alignment = self.placed(kind.removeprefix("Plain"))
+        _, offset, size = fields[-1]
+        return up_to(offset + size, alignment), alignment
+
+    def placed(self, name):
+        """Each field with its place and its size; and the alignment of the whole."""
+        found, place, widest = [], 0, 1
+        for field, kind in self.structs[name]:
+            size, alignment = self.measures(kind)
+            place = up_to(place, alignment)
+            found.append((field, place, size))
+            place, widest = place + size, max(widest, alignment)
+        return found, widest
+
+    def lines(self):
+        for name in self.structs:
+            yield size_line(name, self.measures(name)[0])
+            for field in self.placed(name)[0]:
+                yield field_line(name, *field)
+
+
+def python_lines():
+    for kind in vars(structs).values():
+        if isinstance(kind, type) and issubclass(kind, ctypes.Structure) and kind is not ctypes.Structure:
+            yield size_line(kind.__name__, ctypes.sizeof(kind))
+            for field, *_ in kind._fields_:
+                place = getattr(kind, field)
+                yield field_line(kind.__name__, field, place.offset, place.size)
+
+
+def c_lines():
+    if not PROGRAM.exists():
+        raise AssertionError(f"there is no {PROGRAM}: the command doors/test makes it")
+    return subprocess.run([PROGRAM, "layout"], stdout=subprocess.PIPE, check=True).stdout.decode().splitlines()
+
+
+class Layout(unittest.TestCase):
+    def test_every_struct_of_the_header_file(self):
+        """Each is found in Rattle's sources, with as many fields, and no other."""
+        header = re.sub(r"/\*.*?\*/", "", (ROOT / "include/kesarimbu.h").read_text(), flags=re.DOTALL)
+        in_c = {name: body.count(";") for name, body in re.findall(r"^struct (\w+) \{(.*?)^\};", header, re.DOTALL | re.MULTILINE)}
+        in_rattle = {c_name(name): len(fields) for name, fields in RattleStructs().structs.items()}
+        self.assertEqual(in_rattle, in_c)
+
+    def test_python_is_as_rattle(self):
+        self.assertEqual(sorted(python_lines()), sorted(RattleStructs().lines()))
+
+    def test_c_is_as_rattle(self):
+        self.assertEqual(sorted(c_lines()), sorted(RattleStructs().lines()))
+
+
+if __name__ == "__main__":
+    unittest.main()

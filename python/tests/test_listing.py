@@ -1,0 +1,97 @@
+"""The listing through the module: held to rows and verdicts of the exact layer, whatever window and buffer it has."""
+import io
+import itertools
+import unittest
+
+from kesarimbu import Listing, Refused, Validator, packets, row
+from .sources import Pieces, file_with
+from make_recordings import every, header
+
+SOUND = header(counter=1)
+UNSOUND = header(bc_reserved=0xDEC)
+
+
+def composed(recording, version=None, its=False, **settings):
+    """The listing, put together from packets, rows and verdicts; and how many of them are not sound."""
+    validator, lines, unsound = Validator(version, its), [], 0
+    found = packets(io.BytesIO(recording), **settings)
+    for packet in found:
+        verdict = validator.check(packet.header)
+        lines.append(f"0x{packet.position:X}: {row(packet.header)}")
+        if not verdict.sound:
+            lines.append(f"0x{packet.position:X}: {verdict.text}")
+            unsound += 1
+    end = found.end
+    lines += [f"seen {end.seen}", f"filtered {end.filtered}", f"payload {end.payload}", f"end {end.refusal.number}"]
+    return "".join(line + "\n" for line in lines).encode(), end.refusal, unsound
+
+
+def listed(source, **settings):
+    with Listing(source, **settings) as listing:
+        return b"".join(listing), listing.refusal, listing.unsound
+
+
+class Listings(unittest.TestCase):
+    def test_recordings_of_every_kind(self):
+        settings = [{}, {"skip_payload": True}, {"link": 1}, {"stave": "L5_42", "its": True}, {"version": 6}, {"fee": 6, "stats": False}]
+        shapes = [(64, 1024), (777, 1500), (1 << 18, 1 << 18), (100, 4096)]
+        turns = zip(itertools.cycle(settings), itertools.cycle(shapes))
+        for (name, recording), (asked, (window, room)) in zip(every(4), turns):
+            with self.subTest(name, window=window, room=room, **asked):
+                self.assertEqual(listed(io.BytesIO(recording), window=window, room=room, **asked), composed(recording, **asked))
+
+    def test_a_source_in_pieces(self):
+        for name, recording in itertools.islice(every(5), 0, None, 5):
+            with self.subTest(name):
+                self.assertEqual(listed(Pieces(recording), window=200), composed(recording))
+
+    def test_packets_that_are_not_sound_are_counted_over_all_calls(self):
+        recording = (SOUND + UNSOUND) * 50
+        with Listing(io.BytesIO(recording), room=1024, window=64) as listing:
+            list(listing)
+        self.assertEqual((listing.refusal, listing.unsound, listing.place), (Refused(1), 50, len(recording)))
+
+    def test_lines_do_not_wait_for_more_bytes(self):
+        class Waiting(Pieces):
+            def readinto(self, buffer):
+                if not self.left:
+                    raise TimeoutError("asked for more than is there")
+                return super().readinto(buffer)
+
+        listing = Listing(Waiting(SOUND))
+        chunks = iter(listing)
+        self.assertTrue(next(chunks).startswith(b"0x0: 7 "))
+        self.assertIsNone(listing.refusal)
+        self.assertRaises(TimeoutError, next, chunks)
+
+    def test_a_source_that_only_reads(self):
+        class Reads:
+            def __init__(self, data):
+                self.read = io.BytesIO(data).read
+
+        self.assertEqual(listed(Reads(SOUND * 9), window=100), composed(SOUND * 9))
+        self.assertRaises(TypeError, list, Listing(io.StringIO("text")))
+
+    def test_a_packet_longer_than_the_window(self):
+        recording = header(offset=10064, memory=65535) + bytes(65471) + SOUND
+        self.assertEqual(listed(io.BytesIO(recording), window=64), composed(recording))
+
+    def test_a_buffer_that_is_too_short(self):
+        with self.assertRaises(Refused) as caught:
+            list(Listing(io.BytesIO(SOUND), room=1023))
+        self.assertEqual(caught.exception, Refused(7, (1024,)))
+
+    def test_a_file_that_was_opened_here_is_closed(self):
+        with file_with(SOUND) as path:
+            listing = Listing(path)
+            list(listing)
+            self.assertTrue(listing._windows._file.closed)
+            self.assertEqual(list(listing), [])
+
+    def test_settings_that_are_none(self):
+        self.assertRaises(OverflowError, Listing, io.BytesIO(), version=256)
+        self.assertRaises(Refused, Listing, io.BytesIO(), stave="L5")
+
+
+if __name__ == "__main__":
+    unittest.main()
