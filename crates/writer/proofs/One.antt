@@ -64,7 +64,7 @@ module _ (w : Width) (t : ℕ → List ℕ) where
 
   -- the function's own
   abbrev pub signature : Signature
-  signature = record { lifetimes = 1; outlives = []; params = writerSlot 0 ∷ plain (λ _. UInt w) ∷ []; result = writerSlot 0 }
+  signature = record { lifetimes = 1; outlives = []; params = writerSlot ∷ plain (λ _. UInt w) ∷ []; result = writerSlot }
 
   abbrev pub ended : Ended
   ended = record { signature = signature; kept = (no, (yes, tt)) }
@@ -77,7 +77,7 @@ module _ (w : Width) (t : ℕ → List ℕ) where
   }
 
   abbrev stayed : Stays (signature .params) (ended .kept)
-  stayed = (spent 0, (stay-none (λ _. UInt w) yes, tt))
+  stayed = (spent, (stay-none (λ _. UInt w) yes, tt))
 
   -- its code, but for the callee's name
   abbrev slice : Ty
@@ -235,5 +235,5 @@ module _ (w : Width) (t : ℕ → List ℕ) where
 
       pub meets : Meets 𝓤 H A signature (WpFn 𝓤 H (𝓣 .C) (𝓣 .Λ) (function callee)) (closing 𝓤 H A ended (clauses 𝓤))
       meets =
-          walk-meets 𝓤 H A ended stayed W (spent-goes 0 𝓤 H A W, (goes-none 𝓤 H A W 1 (λ _. UInt w) yes (λ κs x f. refl), tt)) (clauses 𝓤)
+          walk-meets 𝓤 H A ended stayed W (spent-goes 𝓤 H A W, (goes-none 𝓤 H A W 1 (λ _. UInt w) yes (λ κs x f. refl), tt)) (clauses 𝓤)
           (WpFn 𝓤 H (𝓣 .C) (𝓣 .Λ) (function callee)) (WpFn-mono 𝓤 H (W .laws) 𝓣 (function callee)) walks

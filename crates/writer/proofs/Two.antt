@@ -66,9 +66,8 @@ module _ (t : ℕ → ℕ → List ℕ) where
   signature = record {
     lifetimes = 1;
     outlives = [];
-    params = writerSlot 0 ∷ plain (λ _. u64) ∷ plain (λ _. usize) ∷ [];
-    result
-        = writerSlot 0;
+    params = writerSlot ∷ plain (λ _. u64) ∷ plain (λ _. usize) ∷ [];
+    result = writerSlot;
   }
 
   abbrev pub ended : Ended
@@ -82,7 +81,7 @@ module _ (t : ℕ → ℕ → List ℕ) where
   }
 
   abbrev stayed : Stays (signature .params) (ended .kept)
-  stayed = (spent 0, (stay-none (λ _. u64) yes, (stay-none (λ _. usize) yes, tt)))
+  stayed = (spent, (stay-none (λ _. u64) yes, (stay-none (λ _. usize) yes, tt)))
 
   -- its code, but for the callee's name
   abbrev slice : Ty
@@ -256,7 +255,7 @@ module _ (t : ℕ → ℕ → List ℕ) where
       pub meets : Meets 𝓤 H A signature (WpFn 𝓤 H (𝓣 .C) (𝓣 .Λ) (function callee)) (closing 𝓤 H A ended (clauses 𝓤))
       meets =
           walk-meets 𝓤 H A ended stayed W (
-            spent-goes 0 𝓤 H A W,
+            spent-goes 𝓤 H A W,
             (
               goes-none 𝓤 H A W 1 (λ _. u64) yes (λ κs x f. refl),
               (goes-none 𝓤 H A W 1 (λ _. usize) yes (λ κs x f. refl), tt),

@@ -1,4 +1,4 @@
--- A text writer, and what becomes of it: "the text writer holds the lent buffer and the number of bytes written".
+-- A text writer, which holds the lent buffer and the number of bytes written, and what becomes of it (F5).
 use Prim.Native.Nat.{ℕ, _+_, min}
 use mathlib.Core.List.{List}
 use lib.ListN.{length}

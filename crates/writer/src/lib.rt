@@ -2,7 +2,7 @@
 // the buffer and the number, so a text that does not fit is written as far as it fits and counted whole: the count is then the length needed.
 ghost use mathlib.Core.Path.{_≡_};
 ghost use mathlib.Core.List.{[], _∷_};
-ghost use Prim.Native.Nat.{min, suc};
+ghost use Prim.Native.Nat.{suc};
 ghost use lib.ListN.{length, take};
 ghost use Rattle.text_numbers.specs.Numerals.{decimal, hex, left, right};
 ghost use Rattle.writer.specs.Writer.{begun, extended};
@@ -33,30 +33,6 @@ impl<'a> TextWriter<'a> {
     {
         let count = self.count;
         let next = text::put_byte(&mut *self.buf, count, b);
-        TextWriter {
-            buf: self.buf,
-            count: next,
-        }
-    }
-
-    // A byte string.
-    pub fn write_bytes(self, s: &[u8]) -> TextWriter<'a>
-        ensures { λ r. ⌜ r ≡ extended (self .entry) (now (s .entry)) ⌝ }
-    {
-        let count = self.count;
-        let next = text::put_bytes(&mut *self.buf, count, s);
-        TextWriter {
-            buf: self.buf,
-            count: next,
-        }
-    }
-
-    // A number in decimal.
-    pub fn write_decimal(self, n: u64) -> TextWriter<'a>
-        ensures { λ r. ⌜ r ≡ extended (self .entry) (decimal n) ⌝ }
-    {
-        let count = self.count;
-        let next = text_numbers::put_decimal(&mut *self.buf, count, n);
         TextWriter {
             buf: self.buf,
             count: next,
@@ -98,40 +74,4 @@ impl<'a> TextWriter<'a> {
             count: next,
         }
     }
-
-    // A number in decimal, with blanks in front of it up to the width.
-    pub fn write_decimal_right(self, n: u64, width: usize) -> TextWriter<'a>
-        ensures { λ r. ⌜ r ≡ extended (self .entry) (right width (decimal n)) ⌝ }
-    {
-        let count = self.count;
-        let next = text_numbers::put_decimal_right(&mut *self.buf, count, n, width);
-        TextWriter {
-            buf: self.buf,
-            count: next,
-        }
-    }
-
-    // The buffer back, as the part that is written: all of it if more was counted than fits.
-    pub fn written(self) -> &'a [u8]
-        ensures { λ r. ⌜ now r ≡ take (self .entry .count) (now (self .entry .buf)) ⌝ }
-    {
-        let count = self.count;
-        first(self.buf, count)
-    }
-}
-
-// The first `count` bytes, or as many as there are.
-fn first(buf: &mut [u8], count: usize) -> &[u8]
-    ensures { λ r. ⌜ now r ≡ take count (now (buf .entry)) ⌝ }
-{
-    let start = 0;
-    let end = least(count, buf.len());
-    let whole = &buf[..];
-    &whole[start..end]
-}
-
-fn least(a: usize, b: usize) -> usize
-    ensures { λ r. ⌜ r ≡ min a b ⌝ }
-{
-    if a < b { a } else { b }
 }

@@ -39,7 +39,7 @@ use Rattle.writer.proofs.TextWriter.count.Statement as stated
 use Rattle.writer.proofs.TextWriter.count.Code as code
 
 abbrev stayed : Stays (f.ended .signature .params) (f.ended .kept)
-stayed = (kept 0, tt)
+stayed = (kept, tt)
 
 module _ {M : Type 1} (𝓤 : URA M) (H : Heap 𝓤) (A : Atoms 𝓤) (W : Given 𝓤 H A) (mem : Memory → SProp 𝓤) (run : Routine
     → Fun 𝓤) (κ : Lft) (q : Share) (h : TextWriter) where
@@ -84,7 +84,7 @@ module _ {M : Type 1} (𝓤 : URA M) (H : Heap 𝓤) (A : Atoms 𝓤) (W : Given
 
   meets : Meets 𝓤 H A f.signature (WpFn 𝓤 H (𝓣 .C) (𝓣 .Λ) code.function) (f.spec 𝓤 H A mem run)
   meets =
-      walk-meets 𝓤 H A f.ended stayed W (kept-goes 0 𝓤 H A W, tt) (f.clauses 𝓤 H A mem run)
+      walk-meets 𝓤 H A f.ended stayed W (kept-goes 𝓤 H A W, tt) (f.clauses 𝓤 H A mem run)
       (WpFn 𝓤 H (𝓣 .C) (𝓣 .Λ) code.function) (WpFn-mono 𝓤 H (W .laws) 𝓣 code.function) walks
 
 pub count-spec : {M : Type 1} → stated.statement M
