@@ -1,4 +1,4 @@
--- A field of a number, named by its lowest and its highest bit, as document 01 names them ("stave is bits 0-5").
+-- A field of a number, named by its lowest and its highest bit, as the rules name parts of a header (B3, N1).
 use Prim.Native.Nat.{ℕ, _+_, _-_, _/_, _%_, _^_}
 
 abbrev pub bits : ℕ → ℕ → ℕ → ℕ

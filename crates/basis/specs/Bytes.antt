@@ -1,4 +1,4 @@
--- Numbers as bytes: "All numbers little-endian" (document 01, "The 64 bytes").
+-- Numbers as bytes, the lowest byte first (B1).
 use mathlib.Core.List.{List, [], _∷_}
 use Prim.Native.Nat.{ℕ, zero, suc, _+_, _*_, _/_, _%_, _<_}
 use lib.ListN.{length, take, drop, getD}

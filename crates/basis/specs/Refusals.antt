@@ -1,5 +1,5 @@
 -- How a definition says what a call answers. Each enum of the code is mapped onto `Answer` by one definition, which gives a refusal
--- the number and the values that document 01 states in "When the reader says no".
+-- its number and the values that are returned with it (R1 to R9, Q4).
 use Prim.Native.Nat.{ℕ}
 use mathlib.Core.List.{List}
 use lib.IntN.{ℤ}

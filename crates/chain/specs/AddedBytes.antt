@@ -1,4 +1,4 @@
--- Bytes added at a recording's end: the second part of demand 3. The statement stands first; what follows is its proof.
+-- Bytes added at a recording's end (D3.5, D3.6). The statement stands first; what follows is its proof.
 use Prim.Native.Nat.{ℕ, zero, suc, _+_, _-_, _*_, _/_, _≤_, _<_}
 use mathlib.Core.Bool.{Bool, true, false, not, _||_, _&&_, or-true, false≢true}
 use mathlib.Core.Path.{_≡_, refl, ap, sym, subst, _∙_}
@@ -49,7 +49,7 @@ exceptPlace s =
     }
 
 -- An entry of the shorter recording whose payload was cut, and the entry at the same header of the longer one: the header, the position,
--- the marks but E100, the counts and the lists are the same. The payload "may become whole and lose its mark".
+-- the marks but E100, the counts and the lists are the same (D3.6). The payload is whole now, or cut again.
 pub record WasCut (e e′ : Entry (List ℕ)) : Type 0 where
   pub header : RdhCru
   pub position : Position
@@ -71,15 +71,14 @@ pub data Closes : Entry (List ℕ) → List (Entry (List ℕ)) → Type 0 where
   with-1 : (last : Entry (List ℕ)) (es′ : List (Entry (List ℕ))) → isRefusal 1 (last .answer) ≡ true → Closes last es′
   with-6 : (last last′ : Entry (List ℕ)) → isRefusal 6 (last .answer) ≡ true → isRefusal 6 (last′ .answer) ≡ true → Closes last (last′ ∷ [])
 
--- "no header, payload, position, mark, count or refusal of the chain changes, a closing refusal 1 apart; only a last payload that was cut may
--- become whole and lose its mark": the longer recording's chain begins with the entries of the shorter one's.
+-- The longer recording's chain begins with the entries of the shorter one's, but for a closing refusal 1 and a last payload that was cut.
 pub data Begins : List (Entry (List ℕ)) → List (Entry (List ℕ)) → Type 0 where
   same-end : Begins [] []
   same : (e : Entry (List ℕ)) (es es′ : List (Entry (List ℕ))) → Begins es es′ → Begins (e ∷ es) (e ∷ es′)
   closing : (e : Entry (List ℕ)) (es′ : List (Entry (List ℕ))) → isRefusal 1 (e .answer) ≡ true → Begins (e ∷ []) es′
   was-cut : (e e′ last : Entry (List ℕ)) (es′ : List (Entry (List ℕ))) → WasCut e e′ → Closes last es′ → Begins (e ∷ last ∷ []) (e′ ∷ es′)
 
--- For any recording and any bytes that are added at its end, "to at most 2^60 in all", with the same settings, starting state and FEE list.
+-- For any recording and any bytes that are added at its end, 2^60 in all at most, with the same settings, starting state and FEE list.
 abbrev pub AddedBytes : Type 0
 AddedBytes =
     (recording added : List ℕ) (set : Settings) (start : Kept) → length (recording ++ added) ≤ limit

@@ -1,5 +1,4 @@
--- A list of calls on windows of one recording: what they reply, and what the chain says that they reply (document 01, "Demand 3 is one
--- claim about the list, not one per call").
+-- A list of calls on windows of one recording: what they reply, and what the chain says that they reply (C5, C6).
 use Prim.Native.Nat.{ℕ, _+_, _≤_}
 use mathlib.Core.Bool.{Bool, true, false, not, _||_, _&&_}
 use mathlib.Core.Path.{_≡_}
@@ -23,13 +22,13 @@ use Rattle.chain.specs.Following.{Each, cutInto, leftOver, repliesOf}
 
 -- ---- calls
 
--- A window that is lent, its first byte place, and the mark that the recording ends with it.
+-- A window that is lent, its first byte place, and the mark that the recording ends with it (W5).
 pub record Window : Type 0 where
   pub bytes : List ℕ
   pub first : ℕ
   pub last : Bool
 
--- A window of a recording: its bytes are the recording's from its first place on, and it "is marked last only if it reaches the end".
+-- A window of a recording (C6): its bytes are the recording's from its first place on, and where it is marked last it reaches the end.
 -- Windows may overlap, go back, be empty and come in any order.
 pub record WindowOf (recording : List ℕ) (w : Window) : Type 0 where
   pub bytes : w .bytes ≡ take (length (w .bytes)) (drop (w .first) recording)
@@ -80,7 +79,7 @@ abbrev pub keptBy : Reply → Kept
 keptBy (examination e) = left e
 keptBy (load r) = record { state = r .state; feeIds = r .feeIds }
 
--- Whether a reply ends the chain: "the first refusal 1 to 4, or 6 by state and list alone".
+-- Whether a reply ends the chain (C3): any refusal, but 6 only where state and list meet it by themselves.
 abbrev pub endsChain : Reply → Bool
 endsChain r = isRefused (answerOf r) && (not (isRefusal 6 (answerOf r)) || unusable (keptBy r .state) (keptBy r .feeIds))
 
@@ -95,16 +94,15 @@ pub data Held : Type 0 where
   free : Held
   held : Answer (Found (List ℕ)) → Held
 
--- The bytes that an entry needs from the byte place on: 64, and the payload's "only when payload is read and the header would otherwise be
--- handed out".
+-- The bytes that an entry needs from the byte place on (W7): 64, and the payload's where a header is handed out with its payload read.
 abbrev pub needed : Bool → Answer (Found (List ℕ)) → ℕ
 needed skip (gives passed) = 64
 needed skip (gives (handed h payload position)) = pick skip 64 (64 + payloadSize h)
 needed skip (gives (wants place size)) = 64
 needed skip (refuses number values) = 64
 
--- "a want or a 6 by the window that is due before an entry ends the call, and that entry stays next". Where state and window both meet 6,
--- it is the state's, which is the chain's own entry.
+-- What a window lets a call do with the next entry: a want, or a 6 by the window, comes before it (C5). Where state and window both meet 6,
+-- it is the state's, which is the chain's own entry (C4).
 unfoldable pub heldBack : Settings → Kept → Window → Entry (List ℕ) → Held
 heldBack set k w e =
     let place = k .state .progress .place in
@@ -121,7 +119,7 @@ heldBack set k w e =
 abbrev pub Served : Type 0
 Served = Following.Served (Entry (List ℕ)) Reply
 
--- "An examination answers with the next entry".
+-- An examination takes the next entry, or, held back, leaves it the next (C5).
 abbrev pub examinedBy : Kept → Entry (List ℕ) → List (Entry (List ℕ)) → Held → Served
 examinedBy k e es free = record { reply = examination e; rest = es }
 examinedBy k e es (held a) = record { reply = examination (unchanged (k .state) (k .feeIds) a); rest = e ∷ es }
@@ -135,8 +133,8 @@ abbrev pub loadedBy : LoadMarks → Kept → Entry (List ℕ) → List (Entry (L
 loadedBy ms k e es onward free = pick (isPassed (e .answer)) onward (record { reply = load (replied ms e); rest = es })
 loadedBy ms k e es onward (held a) = record { reply = load (heldLoad ms k a); rest = e ∷ es }
 
--- "a load with the next ones up to the first not passed, their marks together". The chain never ends with an entry that is passed, so that
--- the first clause is not met (`CallsFollow`).
+-- A load takes entries up to the first that is not passed, and puts their marks together (C5). The chain never ends with an entry that is
+-- passed, so that the first clause is not met (`CallsFollow`).
 unfoldable pub loadAlong : Settings → Window → LoadMarks → Kept → List (Entry (List ℕ)) → Served
 loadAlong set w ms k [] = record { reply = load (heldLoad ms k (gives passed)); rest = [] }
 loadAlong set w ms k (e ∷ es) = loadedBy ms k e es (loadAlong set w (together ms (e .marks)) (left e) es) (heldBack set k w e)

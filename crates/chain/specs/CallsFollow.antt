@@ -1,4 +1,4 @@
--- All calls follow the chain: the first part of demand 3. The statement stands first; what follows is its proof.
+-- All calls follow the chain (D3.1). The statement stands first; what follows is its proof.
 use Prim.Native.Nat.{ℕ, _+_, _/_}
 use mathlib.Core.Path.{_≡_, ap, sym, _∙_}
 use mathlib.Core.List.{List, [], _∷_}

@@ -1,5 +1,4 @@
--- The chain: "what these steps define over the whole recording, with no window or want, from settings, starting state and FEE list"
--- (document 01, "The chain and one examination").
+-- The chain of a recording: the steps of an examination one after the other, as if the whole recording could be seen (C1 to C3).
 use Prim.Native.Nat.{ℕ, zero, suc, _+_, _/_}
 use mathlib.Core.Bool.{Bool, true, false}
 use mathlib.Core.List.{List, [], _∷_}
@@ -16,7 +15,7 @@ pub record Kept : Type 0 where
   pub state : State
   pub feeIds : List ℕ
 
--- What "state and list then hold".
+-- What an entry leaves of both.
 abbrev pub left : {P : Type 0} → Entry P → Kept
 left e = record { state = e .state; feeIds = e .feeIds }
 
@@ -28,13 +27,13 @@ abbrev pub isRefused : {P : Type 0} → Answer (Found P) → Bool
 isRefused (gives found) = false
 isRefused (refuses number values) = true
 
--- At most n entries. "A refused one is last: 1 to 4, or 6 if state and list alone meet it".
+-- At most n entries. A refused one is the last (C3); a step, which has no window, has no 6 but the one by state and list.
 unfoldable pub chainOf : ℕ → List ℕ → Settings → Kept → List (Entry (List ℕ))
 chainOf zero recording set k = []
 chainOf (suc n) recording set k =
     let e = next recording set k in
     e ∷ pick (isRefused (e .answer)) [] (chainOf n recording set (left e))
 
--- The chain. Each entry but the last moves the byte place on by 64 or more, so that length / 64 + 1 entries are all (`ChainLaws`).
+-- The chain (C1). Each entry but the last moves the byte place on by 64 or more, so that length / 64 + 1 entries are all (`ChainLaws`).
 unfoldable pub chain : List ℕ → Settings → Kept → List (Entry (List ℕ))
 chain recording set k = chainOf (length recording / 64 + 1) recording set k

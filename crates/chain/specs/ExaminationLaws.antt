@@ -379,7 +379,7 @@ module _ (recording : List ℕ) (set : Settings) (k : Kept) (w : Window) (of : W
               (off _ _ usable ∙ off _ _ inside ∙ off _ _ more ∙ off _ _ (le-ltb size 64 whole) ∙ off _ _ (is-cut ∙ e))
               ∙ next-is)
 
-  -- "An examination answers with the next entry", unless a want or a 6 by the window is due before it.
+  -- An examination takes the next entry, unless a want or a 6 by the window is due before it (C5).
   pub examination-follows : entryRead (w .bytes) (examined set (k .state) (k .feeIds) (w .bytes) (w .first) (w .last))
       ≡ foundBy k (next recording set k) (heldBack set k w (next recording set k))
   unfolding outside

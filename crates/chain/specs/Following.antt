@@ -18,7 +18,7 @@ module _ {Kept Call Reply : Type 0} (replyTo : Kept → Call → Reply) (keptBy 
       r ∷ pick (ends r) [] (repliesOf (keptBy r) cs)
 
 -- The replies that a list of entries is cut into, one run of them for each call. Where no entry is left, the chain has ended, and nothing
--- more is said: "a new chain starts there".
+-- more is said (C3).
 module _ {Kept Call Entry Reply : Type 0} (servedBy : Kept → Call → Entry → List Entry → Served Entry Reply) (keptBy : Reply → Kept) where
   unfoldable pub cutInto : Kept → List Call → List Entry → List Reply
   cutInto k [] es = []

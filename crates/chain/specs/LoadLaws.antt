@@ -254,7 +254,7 @@ module _ (recording : List ℕ) (set : Settings) (w : Window) (of : WindowOf rec
         by-held (held a) is = load-held a is
         by-held free is = load-free is (λ passes. onward passes is)
 
-  -- "a load with the next ones up to the first not passed, their marks together"
+  -- A load takes entries up to the first that is not passed, and puts their marks together (C5).
   pub load-follows : (n : ℕ) (ms : LoadMarks) (k : Kept) → length (shownTo (k .state) (w .bytes) (w .first)) < 64 * n
       → loadAlong set w ms k (chain recording set k) ≡ servedLoad recording set (loadOn n ms k)
   load-follows zero ms k few = absurd (omega (arith, few))

@@ -1,5 +1,5 @@
--- What demand 3 says of packets alone: they are "exactly the matching headers on document 01's packet chain that it doesn't refuse, each once,
--- in its turn, none left out", and calls that are not held back come to the chain's end. The statements stand first.
+-- Packets alone: they are the chain's matching headers that are not refused (D3.2), each once and in its turn (D3.3), and calls that are not
+-- held back come to the chain's end (D3.4). The statements stand first.
 use Prim.Native.Nat.{ℕ, zero, suc, _≤_, _<_}
 use mathlib.Core.Bool.{Bool, true, false, not, _||_, _&&_, false≢true, true≢false}
 use mathlib.Core.Path.{_≡_, refl, ap, sym, subst, _∙_}
@@ -53,7 +53,7 @@ unfoldable pub packetsOf : List Reply → List Packet
 packetsOf [] = []
 packetsOf (r ∷ rs) = packetIn (answerOf r) ++ packetsOf rs
 
--- The packets that the calls hand out, followed by those still to come, are the chain's: none is left out, given twice or moved.
+-- The packets that the calls hand out, followed by those still to come, are the chain's: none is left out, given twice or moved (D3.3).
 abbrev pub EachOnce : Type 0
 EachOnce =
     (recording : List ℕ) (set : Settings) (start : Kept) (calls : List Call) → Windows recording calls
@@ -78,7 +78,7 @@ abbrev pub headersOf : List Packet → List RdhCru
 headersOf [] = []
 headersOf (p ∷ ps) = p .header ∷ headersOf ps
 
--- The headers that the chain hands out are exactly these.
+-- The headers that the chain hands out are exactly these (D3.2).
 abbrev pub ExactlyMatching : Type 0
 ExactlyMatching =
     (recording : List ℕ) (set : Settings) (start : Kept)
@@ -92,7 +92,7 @@ unfoldable pub noneHeld : List Reply → Bool
 noneHeld [] = true
 noneHeld (r ∷ rs) = not (isHeld r) && noneHeld rs
 
--- As many calls as the chain has entries reach its end, if none of them is held back.
+-- As many calls as the chain has entries reach its end, if none of them is held back (D3.4).
 abbrev pub ReachesEnd : Type 0
 ReachesEnd =
     (recording : List ℕ) (set : Settings) (start : Kept) (calls : List Call) → Windows recording calls

@@ -1,5 +1,4 @@
--- The cases that document 01 marks with P in "At the edges", as one list of inputs and expected replies, and the theorem that the definitions
--- agree with the list.
+-- The starred cases (E1 to E7) as one list of inputs and expected replies, and the theorem that the definitions agree with the list (D3.8).
 use Prim.Native.Nat.{ℕ}
 use mathlib.Core.Bool.{Bool, true, false}
 use mathlib.Core.Path.{_≡_, refl}
@@ -27,7 +26,7 @@ use Rattle.text.specs.Ascii.{ascii}
 use Rattle.validators.specs.Verdict.{soundTo}
 use Rattle.validators.specs.declared.HeaderId.the-variants.{NotSettled}
 
--- The header of document 01's listing example, with a FEE id, an offset, a bunch counter and a trigger type of the case's own.
+-- The header of the listing's example (P6), with a FEE id, an offset, a bunch counter and a trigger type of the case's own.
 unfoldable pub sample : (feeId offset bc trigger : ℕ) → List ℕ
 sample feeId offset bc trigger =
     7 ∷ 64 ∷ bytesOf 2 feeId ++ (0 ∷ 32 ∷ 0 ∷ 0 ∷ [])
@@ -45,7 +44,7 @@ plain =
       stats = true;
     }
 
--- An input, and the reply that document 01 gives for it.
+-- An input, and its reply by the rules.
 pub data Case : Type 0 where
   -- a header with this offset at the start of a recording: what the scan answers
   offset : (n : ℕ) → Answer (Found (List ℕ)) → Case
@@ -64,21 +63,21 @@ given n = gives (handed (decoded (sample 0x502A n 0 0x4813)) [] (record { 0 = 0 
 
 pub marked : List Case
 marked =
-    -- "P offset 63 gives 2 with -1; P 64 and P 10,064 pass; P 10,065 gives 2 with 10,001."
+    -- E1: the offset, with the value that refusal 2 returns
     offset 63 (refuses 2 (negsuc 0 ∷ pos 0 ∷ []))
     ∷ offset 64 (given 64)
     ∷ offset 10064 (given 10064)
     ∷ offset 10065 (refuses 2 (pos 10001 ∷ pos 0 ∷ []))
-    -- "P BC 0xdeb sound; P 0xdec not. P trigger type 0 not sound; P 0x4813 sound; 0x4000 sound, P 0x8000 not."
+    -- E2 and E3: BC, then trigger type
     ∷ soundness 0x502A 0xdeb 0x4813 true
     ∷ soundness 0x502A 0xdec 0x4813 false
     ∷ soundness 0x502A 0 0 false
     ∷ soundness 0x502A 0 0x4813 true
     ∷ soundness 0x502A 0 0x8000 false
-    -- "P FEE 0x502A is layer 5, stave 42; 0x0100 sound; 0x0040, P 0x6030 (stave 48) and 0x7000 (layer 7) not."
+    -- E4 and E5: layer and stave of a FEE id, and stave 48
     ∷ fee-id 0x502A 5 42
     ∷ soundness 0x6030 0 0x4813 false
-    -- "P stave filter 0x502A takes 0x522A. P the name L9_70 is 0x1006."
+    -- E6 and E7: a stave filter, and a name
     ∷ stave-filter 0x502A 0x522A true
     ∷ name (ascii "L9_70") (gives 0x1006)
     ∷ []

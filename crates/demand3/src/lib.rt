@@ -1,1 +1,1 @@
-// Demand 3 in one piece, and the cases that document 01 marks: both in specs/. There is no code.
+// Demand 3 in one piece, and the starred cases (E): both in specs/. There is no code.

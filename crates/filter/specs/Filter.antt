@@ -1,4 +1,4 @@
--- The filter of a scan: "link, else FEE, else stave (equal under 0x703F), else all" (document 01, "The chain and one examination", step 3).
+-- The filter of a scan: by link, by FEE id, by stave, or none (S3).
 use Prim.Native.Nat.{ℕ}
 use mathlib.Core.Bool.{Bool, true, false, _||_}
 use lib.Dec.{eqb}
@@ -11,7 +11,7 @@ use Rattle.filter.specs.declared.FilterOpt.{FilterOpt}
 use Rattle.filter.specs.declared.FilterTarget.{FilterTarget}
 use Rattle.filter.specs.declared.FilterTarget.the-variants.{Link, Fee, ItsLayerStave, All}
 
--- Several filters may be set: the first of link, FEE and stave decides.
+-- Several filters may be set: the first of link, FEE id and stave decides (S3).
 abbrev pub firstSet : Option8 → Option16 → Option16 → FilterTarget
 firstSet (o8.Some link) fee stave = Link link
 firstSet o8.None (o16.Some fee) stave = Fee fee
@@ -29,11 +29,11 @@ abbrev pub isSet16 : Option16 → Bool
 isSet16 o16.None = false
 isSet16 (o16.Some n) = true
 
--- "if a filter is set" (step 4): any of the three.
+-- Whether any filter is set, so that filtered counts (S4).
 abbrev pub enabled : FilterOpt → Bool
 enabled opt = (isSet8 (opt .«filter_link») || isSet16 (opt .«filter_fee»)) || isSet16 (opt .«filter_its_stave»)
 
--- Whether a header with this link and this FEE id is a match.
+-- Whether a header with this link and this FEE id is a match (S3).
 abbrev pub matches : FilterTarget → ℕ → ℕ → Bool
 matches (Link id) link fee = eqb link id
 matches (Fee id) link fee = eqb fee id

@@ -56,6 +56,6 @@ same-layer-stave id link fee fee′ layers staves =
     let equal : layerStave fee ≡ layerStave fee′ = omega arith in
     sameStave-numbers fee id ∙ ap (λ (n : ℕ). eqb n (layerStave id)) equal ∙ sym (sameStave-numbers fee′ id)
 
--- "stave filter 0x502A takes 0x522A" ("At the edges")
+-- the stave filter 0x502A takes 0x522A (E6)
 pub other-uplink-taken : (link : ℕ) → matches (ItsLayerStave 0x502A) link 0x522A ≡ true
 other-uplink-taken link = sameStave-numbers 0x522A 0x502A

@@ -1,4 +1,4 @@
--- What the calls reply, with the state and the FEE ids that they leave, as document 01's terms have it.
+-- What the calls reply, with the state and the FEE ids that they leave (W8, L2).
 use Prim.Native.Nat.{ℕ}
 use mathlib.Core.List.{List}
 use Rattle.scan_cdp.specs.Answers.{answerOf, loadAnswer}

@@ -53,7 +53,7 @@ other-staves a b differ =
     sameStave-numbers a b
     ∙ ne-eqb (layerStave a) (layerStave b) (λ (equal : layerStave a ≡ layerStave b). differ (omega arith) (omega arith))
 
--- "stave filter 0x502A takes 0x522A" (document 01, "At the edges"), which comes by another uplink; it takes no other stave or layer
+-- 0x502A and 0x522A, which comes by another uplink, are of one stave (E6); another stave or layer is not
 pub other-uplink-taken : sameStave 0x502A 0x522A ≡ true
 other-uplink-taken = sameStave-numbers 0x502A 0x522A
 

@@ -1,4 +1,4 @@
--- Laws of stave names: the grammar is unambiguous, so that each list of bytes has one answer; and the names of document 01 with theirs.
+-- Laws of stave names: the grammar is unambiguous, so that each list of bytes has one answer; and the names of E7 and R8 with theirs.
 use mathlib.Core.Path.{_≡_, refl, ap, ap₂, sym, _∙_, subst}
 use mathlib.Core.List.{List, [], _∷_, _++_}
 use Prim.Native.Nat.{ℕ, zero, suc, _+_, _-_, _*_, _^_, _≤_, _<_}
@@ -126,10 +126,10 @@ L9-70 =
       a-stave = plain (record { one-or-more = omega arith; each = seventy; spell = refl; at-most = omega arith });
     }
 
--- "the name L9_70 is 0x1006" ("At the edges")
+-- the name L9_70 (E7)
 pub L9-70-given : (answer : Answer ℕ) → Answered (76 ∷ 57 ∷ 95 ∷ 55 ∷ 48 ∷ []) answer → answer ≡ gives 0x1006
 L9-70-given answer a = named-answer _ answer 9 70 a L9-70
 
--- "not a stave name", with the example L5
+-- L5 is no stave name (R8)
 pub L5-refused : (answer : Answer ℕ) → Answered (76 ∷ 53 ∷ []) answer → answer ≡ refuses 8 []
 L5-refused answer a = other-answer _ answer a (λ layer stave r. omega (arith, four-bytes _ layer stave r))

@@ -1,4 +1,4 @@
--- Stave names as lists of bytes, and what is answered to one (document 01, "The 64 bytes" and "When the reader says no").
+-- Stave names as lists of bytes, and what is answered to one (N4 to N6, R8).
 use mathlib.Core.Path.{_≡_}
 use mathlib.Core.List.{List, [], _∷_, _++_}
 use Prim.Native.Nat.{ℕ, _+_, _-_, _*_, _^_, _≤_, _<_}
@@ -32,19 +32,19 @@ unfoldable pub valueOf : List ℕ → ℕ
 valueOf [] = 0
 valueOf (digit ∷ behind) = (digit - digit0) * 10 ^ length behind + valueOf behind
 
--- "one or more digits, at most 255", which spell n.
+-- Digits, at least one, which spell n, and n is at most 255 (N5).
 pub record Digits (text : List ℕ) (n : ℕ) : Type 0 where
   pub one-or-more : 0 < length text
   pub each : AllDigits text
   pub spell : valueOf text ≡ n
   pub at-most : n ≤ 255
 
--- "Each number is an optional `+`, then one or more digits, at most 255."
+-- A number in a name: digits, or `+` and digits (N5).
 pub data Number (text : List ℕ) (n : ℕ) : Type 0 where
   plain : Digits text n → Number text n
   signed : (digits : List ℕ) → text ≡ plusSign ∷ digits → Digits digits n → Number text n
 
--- "A stave name is one first byte (any below 0x80 but `_`), a layer, one `_`, a stave."
+-- The bytes of a stave name, part by part, with the layer and the stave that they name (N4).
 pub record Named (name : List ℕ) (layer stave : ℕ) : Type 0 where
   pub first : ℕ
   pub layer-text : List ℕ
@@ -55,8 +55,7 @@ pub record Named (name : List ℕ) (layer stave : ℕ) : Type 0 where
   pub a-layer : Number layer-text layer
   pub a-stave : Number stave-text stave
 
--- The answer to a list of bytes: a stave name gives "the FEE id .. made from layer mod 8 and stave mod 64"; what is "not a
--- stave name" is refused with number 8, and nothing is returned.
+-- The answer to a list of bytes: a stave name gives the FEE id of its layer and stave (N6); anything else is refusal 8, with no value.
 pub data Answered (name : List ℕ) (answer : Answer ℕ) : Type 0 where
   named : (layer stave : ℕ) → Named name layer stave → answer ≡ gives (feeIdOf layer stave) → Answered name answer
   not-named : ((layer stave : ℕ) → Named name layer stave → ⊥) → answer ≡ refuses 8 [] → Answered name answer

@@ -1,5 +1,4 @@
--- What a check on a validator that is lent answers and leaves (document 01, "Verdict", refusal 7, and "the validator lent and updated where
--- it stands").
+-- What a check on a validator that is lent answers and leaves (V, R7, F4).
 use Prim.Native.Nat.{ℕ}
 use mathlib.Core.Path.{_≡_}
 use mathlib.Core.List.{List}

@@ -1,6 +1,4 @@
--- The lines of the listing (document 01, "At the edges"): "For each packet it prints the position (`0x`, upper-case digits), a colon, a
--- blank, the `Display` row; if not sound, a further line with position, colon, blank and verdict text. [..] Last come `seen`, `filtered`,
--- `payload` and their counts as they stand, then `end` and that refusal's number, a line each, in decimal."
+-- The lines of the listing: a packet's row, what is wrong with it, and the four last lines (P2, P3, P5).
 use Prim.Native.Nat.{ℕ, _-_}
 use Prim.Native.String.{String}
 use mathlib.Core.List.{List, [], _∷_, _++_, map}
@@ -22,11 +20,11 @@ newline = 10 ∷ []
 abbrev pub upper : ℕ → ℕ
 upper b = pick (ltb b 97) b (b - 32)
 
--- "the position (`0x`, upper-case digits)": 16 digits hold every number below 2^64.
+-- A position, with upper-case digits (P2): 16 of them hold every number below 2^64.
 unfoldable pub positionText : ℕ → List ℕ
 positionText n = ascii "0x" ++ map upper (numeral 16 16 n)
 
--- A line with "position, colon, blank" and a text.
+-- A line that has a position in front of a text (P2, P3).
 unfoldable pub lineAt : ℕ → List ℕ → List ℕ
 lineAt position t = positionText position ++ ascii ": " ++ t ++ newline
 
@@ -34,7 +32,7 @@ lineAt position t = positionText position ++ ascii ": " ++ t ++ newline
 unfoldable pub verdictLine : RdhCruSanityValidator → ℕ → RdhCru → List ℕ
 verdictLine v position h = pick (soundTo v h) [] (lineAt position (textOf v h))
 
--- The lines of a packet.
+-- The lines of a packet (P2, P3).
 unfoldable pub packetLines : RdhCruSanityValidator → ℕ → RdhCru → List ℕ
 packetLines v position h = lineAt position (rowText h) ++ verdictLine v position h
 
@@ -42,7 +40,7 @@ packetLines v position h = lineAt position (rowText h) ++ verdictLine v position
 unfoldable pub countLine : List ℕ → ℕ → List ℕ
 countLine name n = name ++ ascii " " ++ decimal n ++ newline
 
--- The last lines, with the counts and the number of the refusal.
+-- The last lines, with the counts and the number of the refusal (P5).
 unfoldable pub lastLines : Counts → ℕ → List ℕ
 lastLines counts number =
     countLine (ascii "seen") (counts .seen)

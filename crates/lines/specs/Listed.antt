@@ -1,5 +1,5 @@
 -- What one load adds to the listing: its lines, whether it is a packet that is not sound, and the validator after it. The settings are those
--- of the caller; the listing program's stand here too. A payload that is cut adds nothing.
+-- of the caller; the listing program's stand here too. A payload that is cut adds nothing (P4).
 use Prim.Native.Nat.{ℕ, _≤_}
 use mathlib.Core.Bool.{Bool, true, false, not}
 use mathlib.Core.Path.{_≡_}
@@ -23,7 +23,7 @@ use Rattle.lines.specs.Lines.{lastLines, packetLines, room}
 use Rattle.lines.specs.declared.Listed.{Listed}
 use Rattle.lines.specs.declared.PacketLines.{PacketLines}
 
--- The listing program's settings: no filter, the payload is read, statistics are on.
+-- The listing program's settings: no filter, the payload is read, statistics are on (P1).
 abbrev pub listSettings : Settings
 listSettings =
     record {
@@ -32,7 +32,7 @@ listSettings =
       stats = true;
     }
 
--- A validator with no version and no ITS, which has settled nothing.
+-- A validator with no version and no ITS, which has settled nothing (P1).
 abbrev pub newValidator : RdhCruSanityValidator
 newValidator = record { «header_id» = NotSettled; its = false }
 
@@ -51,7 +51,7 @@ linesOf v (gives (handed h payload position)) l = packetLines v (position .0) h
 linesOf v (gives (wants place size)) l = []
 linesOf v (refuses number values) l = lastLines (l .state .progress .counts) number
 
--- The validator after it: every packet is checked, and nothing else.
+-- The validator after it: every packet is checked, and nothing else (P3).
 abbrev pub validatorOf : RdhCruSanityValidator → Answer (Found Part) → RdhCruSanityValidator
 validatorOf v (gives passed) = v
 validatorOf v (gives (handed h payload position)) = settledBy v h

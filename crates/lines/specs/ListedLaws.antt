@@ -90,7 +90,7 @@ refusalIn (gives j) = 0
 refusalIn (refuses number values) = number
 
 module _ (v : RdhCruSanityValidator) (h : RdhCru) (small : expectedId (v .«header_id») (h .rdh0 .«header_id») < 256) (fits : InRange h) where
-  -- "512 bytes always suffice"
+  -- 512 bytes are always enough for a verdict's text (V6)
   pub text-fits : length (textOf v h) ≤ 512
   unfolding textOf
   text-fits = suffice _ _ h small fits

@@ -1,8 +1,8 @@
--- The parts of a header's fields that are narrower than a byte or share one (document 01, "The 64 bytes").
+-- The parts of a header's fields that are narrower than a byte or share one (B3, N1).
 use Prim.Native.Nat.{ℕ}
 use Rattle.basis.specs.Bits.{bits}
 
--- "FEE id: stave is bits 0-5, layer bits 12-14, uplink bits 8-9."
+-- Stave, layer and uplink of a FEE id (N1).
 abbrev pub staveOf : ℕ → ℕ
 staveOf fee = bits 0 5 fee
 
@@ -12,20 +12,20 @@ layerOf fee = bits 12 14 fee
 abbrev pub uplinkOf : ℕ → ℕ
 uplinkOf fee = bits 8 9 fee
 
--- "14-15 CRU id (low 12 bits) and dw (high 4)"
+-- CRU id and dw (B3).
 abbrev pub cruIdOf : ℕ → ℕ
 cruIdOf n = bits 0 11 n
 
 abbrev pub dwOf : ℕ → ℕ
 dwOf n = bits 12 15 n
 
--- "16-19 BC (low 12) and reserved (20)"
+-- BC and its reserved part (B3).
 abbrev pub bcOf : ℕ → ℕ
 bcOf n = bits 0 11 n
 
 abbrev pub bcReservedOf : ℕ → ℕ
 bcReservedOf n = bits 12 31 n
 
--- "24 data format, 25-31 reserved": the lowest byte of the eight.
+-- Data format, the lowest byte of the eight (B3).
 abbrev pub dataFormatOf : ℕ → ℕ
 dataFormatOf n = bits 0 7 n

@@ -1,5 +1,5 @@
--- The row that Rust's `Display` writes of a header: document 01, module 1, "the plain `Display` row". A column is filled with blanks
--- up to its width and a longer value runs into the next; there is no blank at the end.
+-- The row that Rust's `Display` writes of a header (X3). A column is filled with blanks up to its width, and a longer value runs into the
+-- next; there is no blank at the end.
 use Prim.Native.Nat.{ℕ}
 use mathlib.Core.List.{List, _++_}
 use Rattle.rdh.specs.declared.rdh0.Rdh0.{Rdh0}

@@ -56,7 +56,7 @@ module _ (h : RdhCru) (fits : InRange h) where
       let g = length-rdh2 in
       simp length-append (omega arith)
 
-  -- "longest row 114"
+  -- the longest row has 114 bytes (X3)
   pub longest-row : length (rowText h) ≤ 114
   unfolding span value
   longest-row = omega (arith, length-row, length-hex 7 (h .rdh3 .«detector_field») (omega (arith, fits detector-field)))

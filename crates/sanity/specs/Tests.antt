@@ -1,5 +1,4 @@
--- The tests of a header, in document 01's order, each with its condition and the piece of text that names its failure: document 01,
--- "Verdict", and the Rust's texts ("byte for byte as the Rust's `[E10]` message").
+-- The tests of a header in their order, each with its condition and the piece of text that names its failure, as the Rust writes it (V4).
 use Prim.Native.Nat.{ℕ}
 use Prim.Native.String.{String}
 use mathlib.Core.Bool.{Bool, false, not, _||_, _&&_}
@@ -46,7 +45,7 @@ pieces (t ∷ ts) = pick (t .fails) (t .piece) [] ++ pieces ts
 abbrev pub section : String → List Test → List ℕ
 section heading ts = pick (anyFails ts) (ascii heading ++ pieces ts) []
 
--- "FEE id (no bit of 0x8CC0, stave 0 to 47, layer 0 to 6)"
+-- The FEE id: reserved bits, stave, layer (V4).
 unfoldable pub feeIdTests : ℕ → List Test
 feeIdTests fee =
     test (not (eqb (bitAnd fee 0x8CC0) 0)) (hexPiece "reserved bits = " (bitAnd fee 0x8CC0))
@@ -54,7 +53,7 @@ feeIdTests fee =
     ∷ test (ltb 6 (layerOf fee)) (decimalPiece "layer = " (layerOf fee))
     ∷ []
 
--- "header ID; header size 64; FEE id ..; priority 0; system id 32 if ITS; reserved0 0." The expected header ID is the validator's.
+-- The tests of RDH0 (V4). The expected header ID is the validator's; the system id is tested with ITS alone.
 unfoldable pub rdh0Tests : ℕ → Bool → Rdh0 → List Test
 rdh0Tests expected its w =
     test (not (eqb (w .«header_id») expected))
@@ -66,14 +65,14 @@ rdh0Tests expected its w =
     ∷ test (not (eqb (w .reserved0) 0)) (hexPiece "reserved0 = " (w .reserved0))
     ∷ []
 
--- "Then BC reserved 0 and BC at most 0xdeb."
+-- The tests of RDH1 (V4).
 unfoldable pub rdh1Tests : Rdh1 → List Test
 rdh1Tests w =
     test (not (eqb (bcReservedOf (w .«bc_reserved0» .0)) 0)) (hexPiece "reserved0 = " (bcReservedOf (w .«bc_reserved0» .0)))
     ∷ test (ltb 0xdeb (bcOf (w .«bc_reserved0» .0))) (hexPiece "BC = " (bcOf (w .«bc_reserved0» .0)))
     ∷ []
 
--- "Then reserved 0, stop bit at most 1, trigger type not 0 and no bit 15 to 26."
+-- The tests of RDH2 (V4).
 unfoldable pub rdh2Tests : Rdh2 → List Test
 rdh2Tests w =
     test (not (eqb (w .reserved0) 0)) (hexPiece "reserved0 = " (w .reserved0))
@@ -82,30 +81,30 @@ rdh2Tests w =
     (hexPiece "Spare bits set in trigger_type = " (w .«trigger_type»))
     ∷ []
 
--- "Then reserved 0 and no detector bit 12 to 23."
+-- The tests of RDH3 (V4).
 unfoldable pub rdh3Tests : Rdh3 → List Test
 rdh3Tests w =
     test (not (eqb (w .reserved0) 0)) (hexPiece "reserved0 = " (w .reserved0))
     ∷ test (not (eqb (bits 12 23 (w .«detector_field»)) 0)) (hexPiece "detector_field = " (w .«detector_field»))
     ∷ []
 
--- "Then dw at most 1 and data format at most 2."
+-- The tests of dw and data format, which stand under no word (V4).
 unfoldable pub cruTests : RdhCru → List Test
 cruTests h =
     test (ltb 1 (dwOf (h .«cruid_dw» .0))) (hexPiece "dw = " (dwOf (h .«cruid_dw» .0)))
     ∷ test (ltb 2 (dataFormatOf (h .«dataformat_reserved0» .0))) (hexPiece "data format = " (dataFormatOf (h .«dataformat_reserved0» .0)))
     ∷ []
 
--- All tests; "nothing else is tested".
+-- All tests there are (V3).
 unfoldable pub allTests : ℕ → Bool → RdhCru → List Test
 allTests expected its h =
     rdh0Tests expected its (h .rdh0) ++ rdh1Tests (h .rdh1) ++ rdh2Tests (h .rdh2) ++ rdh3Tests (h .rdh3) ++ cruTests h
 
--- "Sound means all of these".
+-- A header is sound if none fails (V3).
 unfoldable pub sound : ℕ → Bool → RdhCru → Bool
 sound expected its h = not (anyFails (allTests expected its h))
 
--- "the text names the failures in this order", each word's under its heading.
+-- The text that names the failures in their order, each word's under its heading (V5).
 unfoldable pub failureText : ℕ → Bool → RdhCru → List ℕ
 failureText expected its h =
     ascii "[E10] RDH sanity check failed: "
@@ -115,6 +114,6 @@ failureText expected its h =
     ++ section "RDH3: " (rdh3Tests (h .rdh3))
     ++ pieces (cruTests h)
 
--- "empty if sound"
+-- A sound header has an empty text (V5).
 unfoldable pub verdictText : ℕ → Bool → RdhCru → List ℕ
 verdictText expected its h = pick (sound expected its h) [] (failureText expected its h)

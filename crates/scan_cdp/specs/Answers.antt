@@ -1,4 +1,4 @@
--- What a scan answers, and the numbers and values of its refusals (document 01, "When the reader says no").
+-- What a scan answers (W8), and the numbers and values of its refusals (R1 to R6).
 use Prim.Native.Nat.{ℕ}
 use mathlib.Core.List.{List, [], _∷_}
 use lib.IntN.{ℤ, pos}

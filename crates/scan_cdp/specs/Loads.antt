@@ -1,5 +1,4 @@
--- A load on a window: "a loop: the search through mismatching headers leaves from the middle with its answer. Its reply, a want or refusal
--- 6 too, brings the marks of all examinations of that call, carries of seen by their number, and undoes no header passed before."
+-- A load on a window: examinations up to the first that does not pass its header, with the marks of all of them (L1 to L3).
 use Prim.Native.Nat.{ℕ, zero, suc, _+_, _/_}
 use mathlib.Core.Bool.{Bool, true, false, _||_}
 use mathlib.Core.List.{List}
@@ -28,12 +27,12 @@ abbrev pub noLoadMarks : LoadMarks
 noLoadMarks =
     record { initial = Report.None; «seen_carries» = 0; «filtered_carry» = false; «payload_carry» = false; «payload_cut» = false }
 
--- One initial mark is enough for a load: its first header alone can have one.
+-- One initial mark is enough for a load: its first header alone can have one (S2, L2).
 abbrev pub eitherInitial : Initial → Initial → Initial
 eitherInitial Report.None later = later
 eitherInitial (Report.Report trigger format system) later = Report.Report trigger format system
 
--- The marks of some examinations with those of the next one.
+-- The marks of some examinations with those of the next one: carries of seen are counted (L2).
 unfoldable pub together : LoadMarks → Marks → LoadMarks
 together ms m =
     record {
@@ -63,6 +62,6 @@ loadedFrom (suc n) set ms s feeIds w first last =
     (loadedFrom n set (together ms (e .marks)) (e .state) (e .feeIds) w first last)
     (replied ms e)
 
--- A load. Each header that is passed moves the byte place on by 64 or more, so that length / 64 + 1 examinations are enough.
+-- A load (L1). Each header that is passed moves the byte place on by 64 or more, so that length / 64 + 1 examinations are enough.
 unfoldable pub loaded : Settings → State → List ℕ → (w : List ℕ) → (first : ℕ) → (last : Bool) → Loaded Part
 loaded set s feeIds w first last = loadedFrom (length w / 64 + 1) set noLoadMarks s feeIds w first last

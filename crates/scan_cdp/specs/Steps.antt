@@ -1,5 +1,5 @@
--- The step of the chain: what document 01's steps 1 to 5 make of the header at the byte place, over a recording, with no window and no
--- want. A recording shows itself to a step as the bytes from the byte place on, and as the place at which it ends.
+-- The step of the chain: what S1 to S8 make of the header at the byte place, over a recording, with no window and no want. A recording shows
+-- itself to a step as the bytes from the byte place on, and as the place at which it ends.
 use Prim.Native.Nat.{ℕ, _+_, _^_, max}
 use mathlib.Core.Bool.{Bool, true, false, not, _||_, _&&_}
 use mathlib.Core.List.{List, [], _∷_}
@@ -32,14 +32,14 @@ use Rattle.scan_cdp.specs.declared.Tally.{Tally}
 use Rattle.scan_cdp.specs.declared.Turn.{Turn}
 use Rattle.scan_cdp.specs.declared.Turn.the-variants.{FeeIdsFull, BadOffset, MemorySize, NegativeSkip, Passed, HandedOut}
 
--- "Each turn adds an entry: passed, handed out [..] or refused [..], with its marks and what state and list then hold."
+-- An entry: what is answered, its marks, and what state and list hold after it (C2).
 pub record Entry (P : Type 0) : Type 0 where
   pub answer : Answer (Found P)
   pub marks : Marks
   pub state : State
   pub feeIds : List ℕ
 
--- The state of a scan that has not begun. "Both start at 0", byte place and position, and nothing is counted or listed.
+-- The state of a scan that has not begun (W1): at byte place and position 0, with nothing counted or listed.
 abbrev pub newState : State
 newState =
     record {
@@ -56,12 +56,11 @@ newState =
 
 -- ---- step 1
 
--- No place, position or window end is above it.
+-- No place, position or window end is above it (R6).
 abbrev pub limit : ℕ
 limit = 2 ^ 60
 
--- Refusal 6 by state and list alone: "a place, position [..] above 2^60; a list's used number above its length; a link listed twice; seen,
--- filtered or payload at 2^32 - 1 (all tested with statistics off too)".
+-- Refusal 6 by state and list alone (R6, R11), a line for each: byte place and position; used numbers; a link that is listed twice; counts.
 unfoldable pub unusable : State → List ℕ → Bool
 unusable s feeIds =
     let p = s .progress in
@@ -77,7 +76,7 @@ noMarks = record { initial = Report.None; «seen_carry» = false; «filtered_car
 abbrev pub unchanged : {P : Type 0} → State → List ℕ → Answer (Found P) → Entry P
 unchanged s feeIds a = record { answer = a; marks = noMarks; state = s; feeIds = feeIds }
 
--- Refusal 1: "byte place to the end unless already past it"; the load is closed.
+-- Refusal 1: the byte place moves to the end, never back, and the load is closed (R1, S7).
 unfoldable pub ended : {P : Type 0} → State → List ℕ → ℕ → Entry P
 ended s feeIds end =
     record {
@@ -99,16 +98,16 @@ ended s feeIds end =
 
 -- ---- step 2
 
--- "First header of a load": no load is open.
+-- Whether a header is the first of a load: no load is open (T4).
 abbrev pub isFirst : OpenLoad → Bool
 isFirst Load.None = true
 isFirst (Load.From start) = false
 
--- "Statistics off: [..] no refusal 4".
+-- What becomes of the header (S2 to S5). With statistics off there is no refusal 4 (S8).
 unfoldable pub turn : Settings → Progress → List ℕ → RdhCru → Turn
 turn set p feeIds h = turnOf set (isFirst (p .load)) (set .stats && full (feeId h) (p .«fee_ids_used») feeIds) h
 
--- "if statistics are on and the position is 0, the report is marked initial"; it "brings trigger type, data format and system id".
+-- The initial mark, with its three values: a first header at position 0, statistics on (S2, W8).
 unfoldable pub initialOf : Bool → Bool → Position → RdhCru → Initial
 initialOf stats first position h =
     pick (stats && first && eqb (position .0) 0)
@@ -119,7 +118,7 @@ initialOf stats first position h =
 unfoldable pub raised : Bool → ℕ → ℕ → Count
 raised due count n = pick due (added count n) (record { value = count; carry = false })
 
--- The counts, and their carries: seen in step 2, filtered "if a filter is set" and payload in step 4. "Statistics off: [..] no counts".
+-- The counts, and their carries: seen in step 2, filtered and payload in step 4; none with statistics off (K1, S8).
 unfoldable pub tallied : Settings → Bool → Turn → Counts → RdhCru → Tally
 tallied set first t counts h =
     record {
@@ -130,12 +129,12 @@ tallied set first t counts h =
 
 -- ---- steps 3 to 5
 
--- "A payload that is to be read and is cut by the recording's end": fewer than 64 plus its size are left from the byte place on.
+-- Whether the recording's end cuts a payload that is to be read (S6): fewer than 64 plus its size are left from the byte place on.
 unfoldable pub cut : Bool → Turn → RdhCru → ℕ → Bool
 cut skip t h left = handsOut t && not skip && ltb left (64 + payloadSize h)
 
--- "Handed out: [..] Reading payload, the byte place grows by the memory size; skipping payload, by the offset"; a cut payload moves it to
--- the end. "A mismatch is passed: byte place and position grow by the offset." With refusals 2 to 5: "byte place + 64".
+-- The byte place afterwards: behind the 64 bytes with refusals 2 to 5 (R); by the offset where the header is passed (S3) or its payload
+-- skipped, and by the memory size where it is read (S5); at the end where it is cut (S6).
 unfoldable pub placeAfter : Bool → Turn → RdhCru → (place left end : ℕ) → ℕ
 placeAfter skip FeeIdsFull h place left end = place + 64
 placeAfter skip BadOffset h place left end = place + 64
@@ -144,7 +143,7 @@ placeAfter skip NegativeSkip h place left end = place + 64
 placeAfter skip Passed h place left end = place + offset h
 placeAfter skip HandedOut h place left end = pick skip (place + offset h) (pick (cut skip HandedOut h left) end (place + memorySize h))
 
--- The position grows by the offset of a header that is passed or handed out.
+-- The position grows by the offset of a header that is passed or handed out (S3, S5).
 abbrev pub positionAfter : Turn → RdhCru → ℕ → ℕ
 positionAfter FeeIdsFull h position = position
 positionAfter BadOffset h position = position
@@ -153,12 +152,12 @@ positionAfter NegativeSkip h position = position
 positionAfter Passed h position = position + offset h
 positionAfter HandedOut h position = position + offset h
 
--- The position from the start of the load.
+-- The position from the start of the load, which a packet is given (S5).
 abbrev pub startOf : OpenLoad → Position → Position
 startOf Load.None position = position
 startOf (Load.From start) position = start
 
--- "After a packet or refusal 1 to 5 the next call starts a load": only a passed header leaves the load open.
+-- Only a passed header leaves a load open, with its start (S7).
 abbrev pub loadAfter : Turn → OpenLoad → Position → OpenLoad
 loadAfter FeeIdsFull load position = Load.None
 loadAfter BadOffset load position = Load.None
@@ -167,8 +166,7 @@ loadAfter NegativeSkip load position = Load.None
 loadAfter Passed load position = Load.From (startOf load position)
 loadAfter HandedOut load position = Load.None
 
--- What is answered: refusal 2 with "offset - 64, signed, and position"; "The position given with the packet is the one from the start of
--- the load."
+-- What is answered: refusal 2 with the signed distance and the position at this header (R2), a packet with its load's start (S5).
 abbrev pub answerIn : {P : Type 0} → Turn → RdhCru → P → (start position : Position) → Answer (Found P)
 answerIn FeeIdsFull h payload start position = refuses 4 []
 answerIn BadOffset h payload start position = refuses 2 (subℕ (offset h) 64 ∷ pos (position .0) ∷ [])
@@ -177,13 +175,13 @@ answerIn NegativeSkip h payload start position = refuses 5 []
 answerIn Passed h payload start position = gives passed
 answerIn HandedOut h payload start position = gives (handed h payload start)
 
--- The payload's bytes behind the header. A payload that is skipped, or that is cut, "is handed out empty".
+-- The payload's bytes behind the header; none where it is skipped or cut (S6).
 unfoldable pub payloadOf : Bool → Turn → RdhCru → List ℕ → List ℕ
 payloadOf skip t h rest = pick (skip || cut skip t h (length rest)) [] (take (payloadSize h) (drop 64 rest))
 
 -- ---- the step
 
--- The marks of a header: the initial one, the carries of the counts, and E100, which "is marked still" with statistics off.
+-- The marks of a header (W8): the initial one, the carries of the counts, and E100, with statistics off too (S8).
 unfoldable pub marksOf : Settings → Turn → Progress → RdhCru → ℕ → Marks
 marksOf set t p h left =
     let tally = tallied set (isFirst (p .load)) t (p .counts) h in
@@ -236,7 +234,7 @@ entryOf set t s feeIds h rest end =
       feeIds = placesListed (lists set t p) (feeId h) (p .«fee_ids_used») feeIds;
     }
 
--- The step: "Refusal 6, then [..] refusal 1", then what becomes of the header at the byte place.
+-- The step: refusal 6, then refusal 1 (S1), then what becomes of the header at the byte place.
 unfoldable pub step : Settings → State → List ℕ → (rest : List ℕ) → (end : ℕ) → Entry (List ℕ)
 step set s feeIds rest end =
     pick (unusable s feeIds) (unchanged s feeIds (refuses 6 []))

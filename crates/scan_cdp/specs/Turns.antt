@@ -1,4 +1,4 @@
--- What becomes of one header: steps 2 to 4 of document 01's "The chain and one examination", in their order.
+-- What becomes of one header: steps 2 to 4 of an examination (S2 to S4), in their order.
 use Prim.Native.Nat.{ℕ, _-_}
 use mathlib.Core.Bool.{Bool, true, false, not, _||_, _&&_}
 use lib.Dec.{ltb}
@@ -9,7 +9,7 @@ use Rattle.scan_cdp.specs.declared.Settings.{Settings}
 use Rattle.scan_cdp.specs.declared.Turn.{Turn}
 use Rattle.scan_cdp.specs.declared.Turn.the-variants.{FeeIdsFull, BadOffset, MemorySize, NegativeSkip, Passed, HandedOut}
 
--- The header's fields by document 01's names.
+-- The header's fields by the names that the rules have for them (T2).
 abbrev pub offset : RdhCru → ℕ
 offset h = h .«offset_new_packet»
 
@@ -19,35 +19,34 @@ memorySize h = h .«memory_size»
 abbrev pub feeId : RdhCru → ℕ
 feeId h = h .rdh0 .«fee_id» .0
 
--- "the payload size (memory size minus 64)"
+-- The payload size (T2). It is 0 for a memory size below 64, which no packet has (R3).
 abbrev pub payloadSize : RdhCru → ℕ
 payloadSize h = memorySize h - 64
 
--- Refusal 2: "offset below 64 or above 10,064".
+-- Whether an offset is outside 64 to 10,064 (R2).
 abbrev pub badOffset : ℕ → Bool
 badOffset n = ltb n 64 || ltb 10064 n
 
--- Refusal 5: "the distance to skip is negative".
+-- Where a distance is skipped and is below 0, refusal 5.
 unfoldable pub skipped : ℕ → Turn → Turn
 skipped n t = pick (ltb n 64) NegativeSkip t
 
--- Steps 3 and 4. A mismatch is passed, which skips to the next header; a match has refusal 3, "memory size below 64"; and what is then
--- handed out is skipped unless its payload is read.
+-- Steps 3 and 4. A mismatch is passed, which skips to the next header; a match may have refusal 3, and what is then handed out is skipped
+-- unless its payload is read.
 unfoldable pub filtered : Settings → RdhCru → Turn
 filtered set h =
     pick (matches (targetOf (set .filter)) (h .«link_id») (feeId h))
     (pick (ltb (memorySize h) 64) MemorySize (pick (set .«skip_payload») (skipped (offset h) HandedOut) HandedOut))
     (skipped (offset h) Passed)
 
--- Step 2, then the others. "First header of a load: [..] count (seen, link, FEE; refusal 4); then refusal 2. Later header of the same load:
--- refusal 2 first, then count."
+-- Step 2, then the others. A first header meets refusal 4 before 2, a later one 2 before 4 (S2).
 unfoldable pub turnOf : Settings → (first full : Bool) → RdhCru → Turn
 turnOf set first full h =
     pick first
     (pick full FeeIdsFull (pick (badOffset (offset h)) BadOffset (filtered set h)))
     (pick (badOffset (offset h)) BadOffset (pick full FeeIdsFull (filtered set h)))
 
--- Whether step 2 counted the header: a later one that has refusal 2 was not counted.
+-- Whether step 2 counted the header: a later one that has refusal 2 was not counted (R2).
 abbrev pub counted : Bool → Turn → Bool
 counted first FeeIdsFull = true
 counted first BadOffset = first

@@ -1,5 +1,4 @@
--- One examination on a window: the step on what the window shows, or a want where the recording may go on behind it (document 01, "The
--- chain and one examination").
+-- One examination on a window: the step on what the window shows, or a want where the recording may go on behind it (W5 to W9).
 use Prim.Native.Nat.{ℕ, _+_, _-_}
 use mathlib.Core.Bool.{Bool, not, _||_, _&&_}
 use mathlib.Core.List.{List, []}
@@ -16,15 +15,15 @@ use Rattle.scan_cdp.specs.declared.Part.{Part}
 use Rattle.scan_cdp.specs.declared.Settings.{Settings}
 use Rattle.scan_cdp.specs.declared.State.{State}
 
--- Refusal 6 by the window: "window starts after the byte place; a [..] window end above 2^60".
+-- Refusal 6 by the window: it starts behind the byte place, or its end is above 2^60 (R6).
 unfoldable pub outside : ℕ → ℕ → ℕ → Bool
 outside place first size = ltb place first || ltb limit (first + size)
 
--- The bytes from a byte place on that a window shows.
+-- The bytes from a byte place on that a window shows (W5).
 abbrev pub shown : ℕ → ℕ → List ℕ → List ℕ
 shown place first w = drop (place - first) w
 
--- The part of a window that n bytes take from a start on. An empty part is at the window's start.
+-- The part of a window that n bytes take from a start on. An empty part is at the window's start (W9).
 unfoldable pub partAt : ℕ → ℕ → Part
 partAt start n = pick (eqb n 0) (record { start = 0; length = 0 }) (record { start = start; length = n })
 
@@ -42,9 +41,8 @@ placed start (refuses number values) = refuses number values
 abbrev pub located : ℕ → Entry (List ℕ) → Entry Part
 located start e = record { answer = placed start (e .answer); marks = e .marks; state = e .state; feeIds = e .feeIds }
 
--- "If bytes are lacking and the window isn't the last, the reply is a want (byte place, and 64 or 64 plus payload size) and nothing
--- changes. Payload bytes are wanted only when payload is read and the header would otherwise be handed out": where the step would find the
--- payload cut.
+-- An examination: refusal 6; on a window that is not last a want, for the header or for its payload where the step would find it cut, which
+-- changes nothing (W6, W7); and else the step.
 unfoldable pub examined : Settings → State → List ℕ → (w : List ℕ) → (first : ℕ) → (last : Bool) → Entry Part
 examined set s feeIds w first last =
     let place = s .progress .place in

@@ -6,10 +6,10 @@ use filter::FilterOpt;
 use rdh::rdh_cru::RdhCru;
 use stats::Count;
 
-// A byte place in the recording, which the reading goes by.
+// A byte place in the recording, which the reading goes by (W2, F3).
 pub struct BytePlace(pub u64);
 
-// A reported position, which is printed and never read at: offsets alone move it.
+// A reported position, which is printed and never read at: offsets alone move it (W2, F3).
 pub struct Position(pub u64);
 
 pub struct Settings {
@@ -18,7 +18,7 @@ pub struct Settings {
     pub stats: bool,
 }
 
-// Whether a load is open, and the position that it started from. Only a header that was passed leaves one open.
+// Whether a load is open, and the position that it started from. Only a header that was passed leaves one open (S7).
 pub enum OpenLoad {
     None,
     From(Position),
@@ -41,7 +41,7 @@ pub struct Progress {
     pub fee_ids_used: usize,
 }
 
-// The state that a scan keeps between two calls. The FEE ids are in a list that is lent.
+// The state that a scan keeps between two calls (W1). The FEE ids are in a list that is lent.
 pub struct State {
     pub progress: Progress,
     pub links: [u8; 256],
@@ -76,7 +76,7 @@ pub enum Initial {
     Report(u32, u8, u8), // trigger type, data format, system id
 }
 
-// What is reported of one header: the initial mark, counts that were full, and a payload that the recording's end cut (E100).
+// What is reported of one header (W8): the initial mark, counts that were full, and a payload that the recording's end cut (E100).
 pub struct Marks {
     pub initial: Initial,
     pub seen_carry: bool,
@@ -85,7 +85,7 @@ pub struct Marks {
     pub payload_cut: bool,
 }
 
-// What is reported of all headers that a load examined: the marks of each together, with the carries of seen as their number.
+// What is reported of all headers that a load examined (L2): the marks of each together, with the carries of seen as their number.
 pub struct LoadMarks {
     pub initial: Initial,
     pub seen_carries: u64,
@@ -94,7 +94,7 @@ pub struct LoadMarks {
     pub payload_cut: bool,
 }
 
-// A part of the window.
+// A part of the window (W9).
 pub struct Part {
     pub start: usize,
     pub length: usize,

@@ -37,7 +37,7 @@ run-closes (suc n) set s feeIds w first h =
     let m = examined-moves set s feeIds w first goes in
     run-closes n set (e .state) (e .feeIds) w first (fewer s (e .state) w first n (m .starts) (m .ends) (m .least) h))
 
--- "A run over a last window ends within length / 64 + 1 examinations."
+-- A run over a last window ends within length / 64 + 1 examinations (S11).
 pub run-ends : (set : Settings) (s : State) (feeIds w : List ℕ) (first : ℕ)
     → closes (runEnd (length w / 64 + 1) set s feeIds w first .answer) ≡ true
 run-ends set s feeIds w first = run-closes (length w / 64 + 1) set s feeIds w first (enough s w first)

@@ -1,5 +1,4 @@
--- A run of examinations over a last window: "A run over a last window ends within length / 64 + 1 examinations, since all but the end (1
--- or 6) move on by 64 or more" (document 01).
+-- A run of examinations over a last window, up to the one that closes it (S11).
 use Prim.Native.Nat.{ℕ, zero, suc}
 use mathlib.Core.Bool.{Bool, true, false, _||_}
 use mathlib.Core.List.{List}
@@ -18,7 +17,7 @@ abbrev pub isRefusal : {P : Type 0} → ℕ → Answer (Found P) → Bool
 isRefusal n (gives found) = false
 isRefusal n (refuses number values) = eqb number n
 
--- Whether an answer ends a run: "the end (1 or 6)".
+-- Whether an answer closes a run: refusal 1 or 6 (S11).
 abbrev pub closes : {P : Type 0} → Answer (Found P) → Bool
 closes answer = isRefusal 1 answer || isRefusal 6 answer
 

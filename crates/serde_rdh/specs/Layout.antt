@@ -1,5 +1,5 @@
 -- The 64 bytes of a header as a table, and what follows from the table: the header that bytes hold, the bytes that a header is, and
--- what decoding and encoding answer (document 01, "The 64 bytes").
+-- what decoding and encoding answer (B, R9).
 use mathlib.Core.Path.{_≡_}
 use mathlib.Core.Bool.{Bool, true}
 use mathlib.Core.Logic.{_↔_}
@@ -42,10 +42,7 @@ pub record Span : Type 0 where
 abbrev pub at : ℕ → ℕ → Span
 at offset width = record { offset = offset; width = width }
 
--- "Byte 0 header ID, 1 header size, 2-3 FEE id, 4 priority, 5 system id, 6-7 reserved0; 8-9 offset to next, 10-11 memory size, 12 link,
--- 13 packet counter, 14-15 CRU id (low 12 bits) and dw (high 4); 16-19 BC (low 12) and reserved (20), 20-23 orbit; 24 data format, 25-31
--- reserved; 32-35 trigger type, 36-37 pages counter, 38 stop bit, 39 reserved; 40-47 reserved1; 48-51 detector field, 52-53 par bit, 54-55
--- reserved; 56-63 reserved2." What shares a number in the header's structs is one field here.
+-- The table of B2: where each field starts, and how many bytes it has. What shares a number in the header's structs is one field here.
 unfoldable pub span : Field → Span
 span header-id = at 0 1
 span header-size = at 1 1
@@ -132,11 +129,11 @@ header n =
       reserved2 = n reserved2;
     }
 
--- The number in a field's bytes: "All numbers little-endian."
+-- The number in a field's bytes (B1).
 abbrev pub number : List ℕ → Field → ℕ
 number s f = numberAt s (span f .offset) (span f .width)
 
--- The header that bytes hold. "Decoding uses the first 64 bytes of what is lent": no field reaches further.
+-- The header that bytes hold. No field reaches behind the first 64 of them (B4).
 unfoldable pub decoded : List ℕ → RdhCru
 decoded s = header (number s)
 
@@ -153,19 +150,19 @@ encoded h = bytesIn fields h
 abbrev pub InRange : RdhCru → Type 0
 InRange h = (f : Field) → value f h < 256 ^ span f .width
 
--- What decoding answers: refusal 9, "fewer than 64 bytes lent to decode or encode", or the header.
+-- What decoding answers: refusal 9 to fewer than 64 bytes, or the header (B4, R9).
 unfoldable pub decode : List ℕ → Answer RdhCru
 decode s = pick (ltb (length s) 64) (refuses 9 []) (gives (decoded s))
 
--- What encoding answers for a lent buffer l: the same refusal, or that the header was written.
+-- What encoding answers for a lent buffer l: the same refusal, or that the header was written (B4, R9).
 unfoldable pub encode : List ℕ → Answer Unit
 encode l = pick (ltb (length l) 64) (refuses 9 []) (gives tt)
 
--- What the buffer then holds: "encoding writes the first 64 and no more", and with the refusal "nothing written".
+-- What the buffer then holds: the header, and what was behind the first 64 bytes; with the refusal all that it held (B4, R9).
 unfoldable pub encodedInto : RdhCru → List ℕ → List ℕ
 encodedInto h l = pick (ltb (length l) 64) l (encoded h ++ drop 64 l)
 
--- What equality answers: true exactly when the two headers have the same bytes, which is exactly when they are the same header.
+-- What equality answers (B6): true exactly when the two headers have the same bytes, which is exactly when they are the same header.
 pub record Equal (a b : RdhCru) (answer : Bool) : Type 0 where
   pub by-bytes : (answer ≡ true) ↔ (encoded a ≡ encoded b)
   pub as-headers : (answer ≡ true) ↔ (a ≡ b)

@@ -116,7 +116,7 @@ within (f ∷ fs) first end t =
 
 -- ---- decoding
 
--- "Decoding uses the first 64 bytes of what is lent": bytes behind them change nothing
+-- bytes behind the first 64 change nothing (B4)
 pub decoded-take : (n : ℕ) (s : List ℕ) → 64 ≤ n → decoded (take n s) ≡ decoded s
 decoded-take n s enough =
     same-fields _ _
@@ -145,7 +145,7 @@ module _ (h : RdhCru) (fits : InRange h) (rest : List ℕ) where
             (numbers-back fs (first + width) end (t .1) (p ++ own) (omega (arith, length-append p own, length-bytesOf width (value f h)))),
       )
 
-  -- "encode then decode the same header", whatever bytes follow
+  -- a header that is encoded and decoded comes back, whatever bytes follow (B5)
   pub decoded-encoded : decoded (encoded h ++ rest) ≡ h
   decoded-encoded =
       same-fields _ _
@@ -171,7 +171,7 @@ module _ (s : List ℕ) (bytes : Bytes s) where
       ∙ ap (λ (l : List ℕ). l ++ bytesIn fs (decoded s)) (sym (take-add first width s))
       ∙ bytes-back fs next end (t .1) fit
 
-  -- "Decode then encode gives the same 64 bytes"
+  -- 64 bytes that are decoded and encoded come back (B5)
   pub encoded-decoded : 64 ≤ length s → encoded (decoded s) ≡ take 64 s
   encoded-decoded long = bytes-back fields 0 64 tiled long
 

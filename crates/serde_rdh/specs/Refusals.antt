@@ -1,4 +1,4 @@
--- What the enums that decoding and encoding answer with say, by document 01's table "When the reader says no".
+-- What the enums that decoding and encoding answer with say: a header, that it was written, or refusal 9.
 use mathlib.Core.List.{[]}
 use Rattle.basis.specs.Refusals.{Answer, gives, refuses}
 use Rattle.rdh.specs.declared.rdh_cru.RdhCru.{RdhCru}
@@ -7,7 +7,7 @@ use Rattle.serde_rdh.specs.declared.FromBuf.the-variants as from-buf
 use Rattle.serde_rdh.specs.declared.ToByteSlice.{ToByteSlice}
 use Rattle.serde_rdh.specs.declared.ToByteSlice.the-variants as to-byte-slice
 
--- 9: "fewer than 64 bytes lent to decode or encode"
+-- Too few bytes were lent: R9.
 abbrev pub decodeAnswer : FromBuf → Answer RdhCru
 decodeAnswer (from-buf.Rdh h) = gives h
 decodeAnswer from-buf.TooShort = refuses 9 []

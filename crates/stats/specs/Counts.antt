@@ -1,4 +1,4 @@
--- The counts of a scan (document 01, "The chain and one examination").
+-- The counts of a scan (K1, K2).
 use Prim.Native.Nat.{ℕ, _+_, _-_, _%_, _^_}
 use mathlib.Core.Bool.{true, false}
 use mathlib.Core.List.{List, [], _∷_}
@@ -6,12 +6,12 @@ use lib.Dec.{eqb}
 use Rattle.basis.specs.Pick.{pick}
 use Rattle.stats.specs.declared.Count.{Count}
 
--- The largest 32-bit number, at which a count is reported and starts again.
+-- The largest 32-bit number, at which a count is reported and starts again (K2).
 abbrev pub fullCount : ℕ
 fullCount = 2 ^ 32 - 1
 
--- "Seen and filtered go to 0, with a carry mark, on reaching 2^32 - 1. The payload sum wraps at 2^32; only if it then equals 2^32 - 1 does
--- it go to 0 with a mark." One rule for the three: seen and filtered grow by 1, payload by the payload's size.
+-- A count that grows: modulo 2^32, and where that is 2^32 - 1, 0 with a mark (K2). One rule for the three: seen and filtered grow by 1,
+-- payload by the payload's size.
 unfoldable pub added : ℕ → ℕ → Count
 added count n =
     pick (eqb ((count + n) % 2 ^ 32) fullCount)

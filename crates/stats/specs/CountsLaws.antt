@@ -43,7 +43,7 @@ added-modulo count n = by-test (eqb ((count + n) % 2 ^ 32) fullCount) refl
     by-test true e = omega (arith, eqb-true ((count + n) % 2 ^ 32) fullCount e)
     by-test false e = omega arith
 
--- "The payload sum wraps at 2^32": it is the sum of the sizes modulo 2^32, and 1 more for each mark
+-- the payload sum is the sum of the sizes, and 1 more for each mark, modulo 2^32 (K2, F2)
 pub sums-modulo : (count : ℕ) (ns : List ℕ) → count < 2 ^ 32 → addedAll count ns ≡ (count + total ns + marksOf count ns) % 2 ^ 32
 unfolding addedAll marksOf total
 sums-modulo count [] small = omega arith

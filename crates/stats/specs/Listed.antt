@@ -1,5 +1,5 @@
--- The lists of a scan: "Links (256 kept) and FEE ids are listed in order of first sight" (document 01), so that a number is looked for
--- before it is listed; and refusal 6, "a link listed twice". Both look at a list's used part alone.
+-- The lists of a scan: links and FEE ids, each listed when it is first met (K3), and what refusals 4 and 6 ask of a list. Only the used
+-- part of a list counts.
 use Prim.Native.Nat.{ℕ, _+_}
 use mathlib.Core.Bool.{Bool, false, not, _||_, _&&_}
 use mathlib.Core.List.{List, [], _∷_}
@@ -21,7 +21,7 @@ twice (y ∷ ys) = member y ys || twice ys
 abbrev pub goesIn : ℕ → ℕ → List ℕ → Bool
 goesIn x used l = ltb used (length l) && not (member x (take used l))
 
--- "listed in order of first sight": a new number is put at the first place behind the used part. All other places stay as they are.
+-- A new number is put at the first place behind the used part (K3). All other places stay as they are (W3).
 unfoldable pub placesAfter : ℕ → ℕ → List ℕ → List ℕ
 placesAfter x used l = pick (goesIn x used l) (set l used x) l
 
@@ -29,6 +29,6 @@ placesAfter x used l = pick (goesIn x used l) (set l used x) l
 unfoldable pub usedAfter : ℕ → ℕ → List ℕ → ℕ
 usedAfter x used l = pick (goesIn x used l) (used + 1) used
 
--- Whether a number is new and the list has no place for it: refusal 4, "FEE id new, list full".
+-- Whether a number is new and the list has no place for it, which for a FEE id is refusal 4 (K4).
 unfoldable pub full : ℕ → ℕ → List ℕ → Bool
 full x used l = leb (length l) used && not (member x (take used l))

@@ -1,5 +1,4 @@
--- What a function answers that writes a whole text into a lent buffer (document 01, refusal 7: "lent text buffer shorter than the
--- text", returned and left: "length needed; nothing written"; and "Bytes behind a written text or output keep their content").
+-- What a function answers that writes a whole text into a lent buffer, and what it leaves there (X1, R7).
 use Prim.Native.Nat.{ℕ}
 use mathlib.Core.Path.{_≡_}
 use mathlib.Core.List.{List, [], _∷_, _++_}
@@ -12,7 +11,7 @@ use Rattle.basis.specs.Refusals.Answer.{gives, refuses}
 use Rattle.text.specs.declared.Written.{Written}
 use Rattle.text.specs.declared.Written.the-variants.{Text, TooShort}
 
--- The number of bytes written, or refusal 7 with the length needed.
+-- The number of bytes written, or refusal 7 with the length needed (R7).
 abbrev pub answer : Written → Answer ℕ
 answer (Text n) = gives n
 answer (TooShort n) = refuses 7 (pos n ∷ [])

@@ -1,4 +1,4 @@
--- Numbers as texts, as Rust's `{}`, `{:#x}`, `{:<width}` and `{:>width}` write them.
+-- Numbers as texts, as Rust's `{}`, `{:#x}`, `{:<width}` and `{:>width}` write them (X2).
 use Prim.Native.Nat.{ℕ, zero, suc, _+_, _-_, _/_, _%_}
 use mathlib.Core.List.{List, [], _∷_, _++_}
 use lib.Dec.{ltb}

@@ -1,5 +1,4 @@
--- The 20 trigger counts as a table, and what a trigger word does to them (document 01, "The chain and one examination": "Each of the 20
--- trigger counts (bits 0 to 14 and 27 to 31) is the number of words with its bit, modulo 2^32").
+-- The 20 trigger counts as a table, and what a trigger word does to them (G1, G2).
 use mathlib.Core.List.{List, [], _∷_}
 use Prim.Native.Nat.{ℕ, _+_, _%_, _^_, _<_}
 use lib.ListN.{getD}
@@ -39,7 +38,7 @@ counters =
 abbrev pub counterAt : ℕ → Counter
 counterAt place = getD counters place orbit
 
--- The trigger bit that each one counts: "bits 0 to 14 and 27 to 31".
+-- The trigger bit that each one counts (G1).
 unfoldable pub bitOf : Counter → ℕ
 bitOf orbit = 0
 bitOf hb = 1
@@ -115,7 +114,7 @@ stats n =
 unfoldable pub uncounted : TriggerStats
 uncounted = stats (λ k. 0)
 
--- What one trigger word does: each counter whose bit the word has goes up by 1, modulo 2^32.
+-- What one trigger word does: each counter whose bit the word has goes up by 1, modulo 2^32 (G2).
 unfoldable pub counted : TriggerStats → ℕ → TriggerStats
 counted s word = stats (λ k. (count k s + bits (bitOf k) (bitOf k) word) % 2 ^ 32)
 
@@ -124,7 +123,7 @@ unfoldable pub collected : TriggerStats → List ℕ → TriggerStats
 collected s [] = s
 collected s (word ∷ words) = collected (counted s word) words
 
--- "the number of words with its bit"
+-- How many words have a bit (G2).
 unfoldable pub withBit : ℕ → List ℕ → ℕ
 withBit bit [] = 0
 withBit bit (word ∷ words) = bits bit bit word + withBit bit words

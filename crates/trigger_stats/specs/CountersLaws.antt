@@ -53,7 +53,7 @@ collected-at s words i below =
     ap (collected s) (drop-cons words i 0 below)
     ∙ ap (λ (k : ℕ). collected (counted s (getD words i 0)) (drop k words)) (sym (add-one i))
 
--- "Each of the 20 trigger counts is the number of words with its bit, modulo 2^32", from any start
+-- each count grows by the number of words that have its bit, modulo 2^32, from any start (G2)
 pub counts-words : (k : Counter) (s : TriggerStats) (words : List ℕ) → count k s < 2 ^ 32
     → count k (collected s words) ≡ (count k s + withBit (bitOf k) words) % 2 ^ 32
 unfolding collected withBit

@@ -1,5 +1,4 @@
--- The text of a comparison of two statistics (document 01: "A comparison writes the macro's lines, a line feed after each, in an order
--- left open on purpose, where the Rust has that of the macro's call").
+-- The text of a comparison of two statistics: a line for each count that differs, in an order that is left open (G4).
 use Prim.Native.Nat.{ℕ, _+_}
 use Prim.Native.String.{String}
 use mathlib.Core.Path.{_≡_}
@@ -44,7 +43,7 @@ unfoldable pub mismatchOf : List ℕ → ℕ → ℕ → List ℕ
 mismatchOf field expected got =
     field ++ ascii " mismatch! expected: " ++ decimal expected ++ ascii ", got: " ++ decimal got ++ ascii "\n"
 
--- A counter's line in the comparison of `self` with `other`: the other's count is expected.
+-- A counter's line in the comparison of `self` with `other`: the other's count is expected (G4).
 unfoldable pub mismatch : TriggerStats → TriggerStats → Counter → List ℕ
 mismatch self other k = mismatchOf (ascii (name k)) (count k other) (count k self)
 
@@ -57,7 +56,7 @@ unfoldable pub occurrences : Counter → List Counter → ℕ
 occurrences k [] = 0
 occurrences k (j ∷ js) = pick (eqb (bitOf k) (bitOf j)) 1 0 + occurrences k js
 
--- Every counter whose counts differ is listed once, and no other is listed.
+-- Every counter whose counts differ is listed once, and no other is listed (G4).
 abbrev pub DifferingOnce : TriggerStats → TriggerStats → List Counter → Type 0
 DifferingOnce self other order = (k : Counter) → occurrences k order ≡ pick (eqb (count k self) (count k other)) 0 1
 

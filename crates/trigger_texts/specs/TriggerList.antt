@@ -1,4 +1,4 @@
--- The text of the trigger list: a title and a line for each counter (document 01: "The trigger list is the Rust's `Display`").
+-- The text of the trigger list: a title and a line for each counter, as the Rust's `Display` has them (G3).
 use Prim.Native.Nat.{ℕ}
 use Prim.Native.String.{String}
 use mathlib.Core.List.{List, _++_}

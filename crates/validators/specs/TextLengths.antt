@@ -1,4 +1,4 @@
--- How long a verdict's text can be: "512 bytes always suffice", and 406 do.
+-- How long a verdict's text can be: 406 bytes (V6).
 use Prim.Native.Nat.{ℕ, suc, _+_, _≤_, _<_, _^_}
 use Prim.Native.String.{String}
 use mathlib.Core.Bool.{Bool, true, false}

@@ -1,4 +1,4 @@
--- A validator, and what a check on it answers and leaves (document 01, "Verdict", and refusal 7).
+-- A validator, and what a check on it answers and leaves (V, R7).
 use Prim.Native.Nat.{ℕ, _≤_, _<_}
 use mathlib.Core.Path.{_≡_}
 use mathlib.Core.Bool.{Bool, true, false}
@@ -18,14 +18,13 @@ use Rattle.validators.specs.declared.Verdict.{Verdict}
 use Rattle.validators.specs.declared.Verdict.the-variants.{Sound, NotSound, TooShort}
 use Rattle.sanity.specs.Tests.{sound, verdictText}
 
--- The header ID that a header with this ID is held to: the configured or settled one, or its own where none is settled yet.
+-- The header ID that a header with this ID is held to: the configured or settled one, or its own where none is settled yet (V1, V2).
 abbrev pub expectedId : HeaderId → ℕ → ℕ
 expectedId (Configured n) id = n
 expectedId NotSettled id = id
 expectedId (Settled n) id = n
 
--- "The first header checked settles the header ID for all later ones, unless a version was configured; it does so even if it fails
--- elsewhere."
+-- What is settled afterwards: where nothing was, the ID of this header, sound or not (V2).
 abbrev pub settledId : HeaderId → ℕ → HeaderId
 settledId (Configured n) id = Configured n
 settledId NotSettled id = Settled id
@@ -53,14 +52,14 @@ answerOf Sound = gives (record { is-sound = true; text-length = 0 })
 answerOf (NotSound n) = gives (record { is-sound = false; text-length = n })
 answerOf (TooShort n) = refuses 7 (pos n ∷ [])
 
--- What a check answers for a text buffer of a length.
+-- What a check answers for a text buffer of a length (V7, R7).
 unfoldable pub answered : RdhCruSanityValidator → RdhCru → ℕ → Answer Judged
 answered v h room =
     pick (leb (length (textOf v h)) room)
     (gives (record { is-sound = soundTo v h; text-length = length (textOf v h) }))
     (refuses 7 (pos (length (textOf v h)) ∷ []))
 
--- The validator afterwards: refusal 7 leaves "no header ID settled".
+-- The validator afterwards: refusal 7 settles nothing (V2).
 unfoldable pub validatorAfter : RdhCruSanityValidator → RdhCru → ℕ → RdhCruSanityValidator
 validatorAfter v h room = pick (leb (length (textOf v h)) room) (settledBy v h) v
 

@@ -47,7 +47,7 @@ sound-empty expected its h = (sound-text expected its h, λ e. go (sound expecte
     go false is e =
         absurd (omega (arith, some-text expected its h, ap length (sym (unsound-text expected its h is) ∙ e)))
 
--- "512 bytes always suffice"
+-- 512 bytes are always enough (V6)
 pub suffice : (expected : ℕ) (its : Bool) (h : RdhCru) → expected < 256 → InRange h → length (verdictText expected its h) ≤ 512
 suffice expected its h small fits = go (sound expected its h) refl
   where

@@ -1,6 +1,4 @@
--- A list of verdicts on one validator: the third part of demand 3, "In any list of verdicts on one validator, refused ones included,
--- verdict, text and refusal 7 follow as document 01 says from its settings and starting state, the headers put and the text buffers'
--- lengths".
+-- A list of verdicts on one validator, refused ones among them: what is replied, and what the validator then holds (D3.7).
 use Prim.Native.Nat.{ℕ}
 use mathlib.Core.Bool.{Bool}
 use mathlib.Core.Path.{_≡_, refl, ap, sym, _∙_}
@@ -46,12 +44,12 @@ idOf c = c .header .rdh0 .«header_id»
 unfoldable pub settling : Bool → Call → Bool
 settling its c = leb (length (verdictText (idOf c) its (c .header))) (c .room)
 
--- "The first header checked settles the header ID for all later ones": the first call of the list that is not refused.
+-- The ID that the first call of the list settles that is not refused (V2).
 unfoldable pub firstSettled : Bool → List Call → HeaderId
 firstSettled its [] = NotSettled
 firstSettled its (c ∷ cs) = pick (settling its c) (Settled (idOf c)) (firstSettled its cs)
 
--- What a validator holds headers to after a list of calls, "unless a version was configured".
+-- What a validator holds headers to after a list of calls: a version or a settled ID stays (V1, V2).
 unfoldable pub settledOver : HeaderId → Bool → List Call → HeaderId
 settledOver (Configured n) its cs = Configured n
 settledOver NotSettled its cs = firstSettled its cs

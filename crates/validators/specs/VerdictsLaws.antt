@@ -1,4 +1,4 @@
--- Every reply in a list of verdicts follows from the settings, the starting state and the calls up to it.
+-- Every reply in a list of verdicts follows from the settings, the starting state and the calls up to it (D3.7).
 use Prim.Native.Nat.{ℕ}
 use mathlib.Core.Bool.{Bool, true, false}
 use mathlib.Core.Path.{_≡_, refl, ap, sym, _∙_}

@@ -9,7 +9,7 @@ use Rattle.window.specs.declared.Held.{Held}
 use Rattle.window.specs.declared.Refilled.{Refilled}
 use Rattle.window.specs.declared.Refilled.the-variants.{Window, Failed}
 
--- Nothing was read yet: "Both start at 0", the byte place among them.
+-- Nothing was read yet: what is held starts at byte place 0 (W1).
 abbrev pub nothing : Held
 nothing = record { first = record { 0 = 0 }; length = 0; last = false }
 

@@ -1,4 +1,4 @@
--- The three tests are document 01's two orders in a row.
+-- The three tests are the two orders of step 2 in a row.
 use mathlib.Core.Path.{sym, _∙_}
 use mathlib.Core.Bool.{Bool}
 use Rattle.basis.specs.Pick.{on, off}
