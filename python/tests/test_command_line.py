@@ -15,7 +15,7 @@ from make_recordings import every, header
 SAMPLE = ROOT / "samples/staves.raw"
 LISTING_PROGRAM = ROOT / "target/bin/listing"
 
-# The example of the papers: two headers, and what is to be printed.
+# Two headers, and what is to be printed.
 TWO = header(link=2, cru_dw=1, orbit=16) + header(link=2, cru_dw=1, orbit=16, counter=1, pages=1, stop=1)
 TWO_LISTED = b"""\
 0x0: 7     64     20522  32    64      2     0         0    0x10        2          0x4813    0        0      0x0
