@@ -1,25 +1,18 @@
-// What C and Python call about headers, FEE ids and stave names, over structs by value that C has too.
+// What C and Python call about headers, over structs by value that C has too.
 ghost use mathlib.Core.Path.{_≡_};
-ghost use Rattle.its.specs.FeeIds.{feeIdOf, sameStave};
 ghost use Rattle.row.specs.Row.{rowText};
 ghost use Rattle.serde_rdh.specs.Layout.{decode, encode, encodedInto, Equal};
 ghost use Rattle.text.specs.Written.{overwritten, written};
-ghost use Rattle.doors_header.specs.Plain.{headerOf, plainWritten, refusalOf};
-ghost use Rattle.doors_header.specs.Replies.{NamedThrough, feeParts, partsOf, plainDecoded};
-use crate::plain::PlainHeader;
-use crate::plain::PlainText;
-use crate::plain::header_of;
-use crate::plain::plain_text;
-use crate::replies::PlainDecoded;
-use crate::replies::PlainFeeParts;
-use crate::replies::PlainHeaderParts;
-use crate::replies::PlainNamed;
-use crate::replies::encode_refusal;
-use crate::replies::plain_decoded;
-use crate::replies::plain_named;
-
-pub mod plain;
-pub mod replies;
+ghost use Rattle.doors_header_structs.specs.Plain.{headerOf, plainWritten, refusalOf};
+ghost use Rattle.doors_header_structs.specs.Replies.{partsOf, plainDecoded};
+use doors_header_structs::plain::PlainHeader;
+use doors_header_structs::plain::PlainText;
+use doors_header_structs::plain::header_of;
+use doors_header_structs::plain::plain_text;
+use doors_header_structs::replies::PlainDecoded;
+use doors_header_structs::replies::PlainHeaderParts;
+use doors_header_structs::replies::encode_refusal;
+use doors_header_structs::replies::plain_decoded;
 
 // The header in the first 64 bytes.
 #[no_mangle]
@@ -73,43 +66,4 @@ pub extern "C" fn kesarimbu_row(header: PlainHeader, out: &mut [u8]) -> PlainTex
     ensures left { λ _. ⌜ now (out .exit) ≡ overwritten (rowText (headerOf header)) (now (out .entry)) ⌝ }
 {
     plain_text(row::row(header_of(header), out))
-}
-
-// Layer, stave and fibre uplink of a FEE id.
-#[no_mangle]
-pub extern "C" fn kesarimbu_fee(fee_id: u16) -> PlainFeeParts
-    ensures { λ r. ⌜ r ≡ feeParts «fee_id» ⌝ }
-{
-    let layer = its::layer_from_feeid(fee_id);
-    let stave = its::stave_number_from_feeid(fee_id);
-    let uplink = its::uplink_from_feeid(fee_id);
-    PlainFeeParts {
-        layer,
-        stave,
-        uplink,
-    }
-}
-
-// The FEE id of a layer and a stave.
-#[no_mangle]
-pub extern "C" fn kesarimbu_fee_id(layer: u8, stave: u8) -> u16
-    ensures { λ r. ⌜ r ≡ feeIdOf layer stave ⌝ }
-{
-    its::feeid_from_layer_stave(layer, stave)
-}
-
-// Whether two FEE ids have the same layer and stave.
-#[no_mangle]
-pub extern "C" fn kesarimbu_same_stave(fee_id: u16, other: u16) -> bool
-    ensures { λ r. ⌜ r ≡ sameStave «fee_id» other ⌝ }
-{
-    its::is_match_feeid_layer_stave(fee_id, other)
-}
-
-// The FEE id of the stave that is named.
-#[no_mangle]
-pub extern "C" fn kesarimbu_name(name: &[u8]) -> PlainNamed
-    ensures { λ r. ⌜ NamedThrough (now (name .entry)) r ⌝ }
-{
-    plain_named(its_names::layer_stave_string_to_feeid(name))
 }

@@ -3,14 +3,14 @@ ghost use mathlib.Core.Path.{_≡_};
 ghost use Rattle.text.specs.Written.{overwritten, written};
 ghost use Rattle.trigger_stats.specs.Counters.{collected};
 ghost use Rattle.trigger_texts.specs.TriggerList.{listText};
-ghost use Rattle.doors_header.specs.Plain.{plainWritten};
+ghost use Rattle.doors_header_structs.specs.Plain.{plainWritten};
 ghost use Rattle.doors_triggers.specs.Plain.{countsOf, plainCounts};
 ghost use Rattle.doors_triggers.specs.Replies.{ComparedThrough};
 use crate::plain::PlainTriggerCounts;
 use crate::plain::counts_of;
 use crate::plain::plain_counts;
-use doors_header::plain::PlainText;
-use doors_header::plain::plain_text;
+use doors_header_structs::plain::PlainText;
+use doors_header_structs::plain::plain_text;
 
 pub mod plain;
 

@@ -9,7 +9,7 @@ use Rattle.basis.specs.Refusals.{Answer, gives, refuses}
 use Rattle.rdh.specs.declared.rdh_cru.RdhCru.{RdhCru}
 use Rattle.validators.specs.Verdict.{Judged, answered, validatorAfter}
 use Rattle.validators.specs.declared.RdhCruSanityValidator.{RdhCruSanityValidator}
-use Rattle.doors_header.specs.Plain.{lengthNeeded}
+use Rattle.doors_header_structs.specs.Plain.{lengthNeeded}
 use Rattle.doors_verdict.specs.Plain.{plainValidator}
 use Rattle.doors_verdict.specs.declared.PlainChecked.{PlainChecked}
 

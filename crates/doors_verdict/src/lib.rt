@@ -2,17 +2,17 @@
 ghost use mathlib.Core.Path.{_≡_};
 ghost use Rattle.text.specs.Written.{overwritten};
 ghost use Rattle.validators.specs.Verdict.{answerOf, textOf};
-ghost use Rattle.doors_header.specs.Plain.{headerOf};
+ghost use Rattle.doors_header_structs.specs.Plain.{headerOf};
 ghost use Rattle.doors_verdict.specs.Plain.{validatorOf};
 ghost use Rattle.doors_verdict.specs.Replies.{checked, plainChecked};
 ghost use lib.ListN.{length};
 use crate::plain::PlainValidator;
 use crate::plain::plain_validator;
 use crate::plain::validator_of;
-use doors_header::plain::BUFFER_TOO_SHORT;
-use doors_header::plain::NO_REFUSAL;
-use doors_header::plain::PlainHeader;
-use doors_header::plain::header_of;
+use doors_header_structs::plain::BUFFER_TOO_SHORT;
+use doors_header_structs::plain::NO_REFUSAL;
+use doors_header_structs::plain::PlainHeader;
+use doors_header_structs::plain::header_of;
 use validators::SanityCheck;
 use validators::Verdict;
 

@@ -1,5 +1,5 @@
 //! Answers as a port gives them that has no heap and writes each text into a buffer that it is lent. The text is the reference's; what
-//! becomes of it in a buffer of a given length is document 01's refusals 7 and 9.
+//! becomes of it in a buffer of a given length is said by the rules R7 and R9 of docs/READER.md.
 
 use crate::reading::{hex, number};
 use std::io::{Result, Write};

@@ -1,4 +1,4 @@
-//! The listing of a recording, as document 01 defines it for the listing program, made by the reference's functions.
+//! The listing of a recording, as the rules P of docs/READER.md define it, made by the reference's functions.
 
 use crate::messages::Messages;
 use crate::scan::Settings;

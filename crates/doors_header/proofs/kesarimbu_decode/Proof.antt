@@ -1,6 +1,6 @@
 -- The reply is C's struct for the answer of the decoding.
 use mathlib.Core.Path.{ap, _∙_}
-use Rattle.doors_header.specs.Replies.{plainDecoded}
+use Rattle.doors_header_structs.specs.Replies.{plainDecoded}
 use borrow.Author.Needs.{needs}
 use Rattle.doors_header.proofs.kesarimbu_decode.Statement.{statement}
 use Rattle.doors_header.proofs.kesarimbu_decode.Tie as tie

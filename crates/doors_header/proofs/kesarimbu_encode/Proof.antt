@@ -2,7 +2,7 @@
 use mathlib.Core.Path.{ap, _∙_}
 use Rattle.rdh.specs.declared.rdh_cru.RdhCru.{RdhCru}
 use Rattle.serde_rdh.specs.Layout.{encodedInto}
-use Rattle.doors_header.specs.Plain.{refusalOf}
+use Rattle.doors_header_structs.specs.Plain.{refusalOf}
 use borrow.Author.Needs.{needs}
 use Rattle.doors_header.proofs.kesarimbu_encode.Statement.{statement}
 use Rattle.doors_header.proofs.kesarimbu_encode.Tie as tie

@@ -2,7 +2,7 @@
 use mathlib.Core.Path.{subst}
 use Rattle.rdh.specs.declared.rdh_cru.RdhCru.{RdhCru}
 use Rattle.serde_rdh.specs.Layout.{Equal}
-use Rattle.doors_header.specs.Plain.{headerOf}
+use Rattle.doors_header_structs.specs.Plain.{headerOf}
 use borrow.Author.Needs.{needs}
 use Rattle.doors_header.proofs.kesarimbu_equal.Statement.{statement}
 use Rattle.doors_header.proofs.kesarimbu_equal.Tie as tie

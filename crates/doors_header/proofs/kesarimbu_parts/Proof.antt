@@ -1,6 +1,6 @@
 -- Field by field, of the header that C's struct is.
 use mathlib.Core.Path.{ap, _∙_}
-use Rattle.doors_header.specs.Replies.{partsOf}
+use Rattle.doors_header_structs.specs.Replies.{partsOf}
 use borrow.Author.Needs.{needs}
 use Rattle.doors_header.proofs.kesarimbu_parts.Statement.{statement}
 use Rattle.doors_header.proofs.kesarimbu_parts.Tie as tie

@@ -3,7 +3,7 @@ use mathlib.Core.Path.{ap, _∙_}
 use Rattle.rdh.specs.declared.rdh_cru.RdhCru.{RdhCru}
 use Rattle.row.specs.Row.{rowText}
 use Rattle.text.specs.Written.{overwritten, written}
-use Rattle.doors_header.specs.Plain.{plainWritten}
+use Rattle.doors_header_structs.specs.Plain.{plainWritten}
 use borrow.Author.Needs.{needs}
 use Rattle.doors_header.proofs.kesarimbu_row.Statement.{statement}
 use Rattle.doors_header.proofs.kesarimbu_row.Tie as tie

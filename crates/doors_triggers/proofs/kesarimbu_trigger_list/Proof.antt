@@ -3,7 +3,7 @@ use mathlib.Core.Path.{ap, _∙_}
 use Rattle.text.specs.Written.{overwritten, written}
 use Rattle.trigger_stats.specs.declared.TriggerStats.{TriggerStats}
 use Rattle.trigger_texts.specs.TriggerList.{listText}
-use Rattle.doors_header.specs.Plain.{plainWritten}
+use Rattle.doors_header_structs.specs.Plain.{plainWritten}
 use borrow.Author.Needs.{needs}
 use Rattle.doors_triggers.proofs.kesarimbu_trigger_list.Statement.{statement}
 use Rattle.doors_triggers.proofs.kesarimbu_trigger_list.Tie as tie

@@ -1,8 +1,8 @@
 -- Each arm is one case.
 use mathlib.Core.Path.{refl}
 use borrow.Author.Needs.{needs}
-use Rattle.doors_header.proofs.plain.plain_text.Statement.{statement}
-use Rattle.doors_header.proofs.plain.plain_text.Tie as tie
+use Rattle.doors_header_structs.proofs.plain.plain_text.Statement.{statement}
+use Rattle.doors_header_structs.proofs.plain.plain_text.Tie as tie
 
 enum-known-written : tie.Need-enum-known-written
 enum-known-written c = search needs

@@ -1,9 +1,9 @@
 -- Field by field.
 use mathlib.Core.Path.{refl}
 use Rattle.serde_rdh.specs.Layout.{header}
-use Rattle.doors_header.specs.Replies.{zeroHeader}
-use Rattle.doors_header.proofs.replies.zero_header.Statement.{statement}
-use Rattle.doors_header.proofs.replies.zero_header.Tie as tie
+use Rattle.doors_header_structs.specs.Replies.{zeroHeader}
+use Rattle.doors_header_structs.proofs.replies.zero_header.Statement.{statement}
+use Rattle.doors_header_structs.proofs.replies.zero_header.Tie as tie
 
 returns : tie.Need-returns
 unfolding zeroHeader header

@@ -1,8 +1,8 @@
 -- Each arm is one case.
 use mathlib.Core.Path.{refl}
 use borrow.Author.Needs.{needs}
-use Rattle.doors_header.proofs.replies.plain_named.Statement.{statement}
-use Rattle.doors_header.proofs.replies.plain_named.Tie as tie
+use Rattle.doors_staves.proofs.plain_named.Statement.{statement}
+use Rattle.doors_staves.proofs.plain_named.Tie as tie
 
 enum-known-named : tie.Need-enum-known-named
 enum-known-named c = search needs

@@ -1,7 +1,7 @@
 // A header and the reply of a text as structs that C has too. Every value of a plain header is a header's, and the other way round.
 ghost use mathlib.Core.Path.{_≡_};
 ghost use Rattle.text.specs.Written.{answer};
-ghost use Rattle.doors_header.specs.Plain.{headerOf, plainHeader, plainWritten};
+ghost use Rattle.doors_header_structs.specs.Plain.{headerOf, plainHeader, plainWritten};
 use rdh::rdh_cru::CruidDw;
 use rdh::rdh_cru::DataformatReserved;
 use rdh::rdh_cru::RdhCru;

@@ -1,7 +1,7 @@
 -- Each arm is one case.
 use borrow.Author.Needs.{needs}
-use Rattle.doors_header.proofs.replies.plain_decoded.Statement.{statement}
-use Rattle.doors_header.proofs.replies.plain_decoded.Tie as tie
+use Rattle.doors_header_structs.proofs.replies.plain_decoded.Statement.{statement}
+use Rattle.doors_header_structs.proofs.replies.plain_decoded.Tie as tie
 
 enum-known-decoded : tie.Need-enum-known-decoded
 enum-known-decoded c = search needs

@@ -1,7 +1,7 @@
 -- Part by part.
 use borrow.Author.Needs.{needs}
-use Rattle.doors_header.proofs.kesarimbu_fee.Statement.{statement}
-use Rattle.doors_header.proofs.kesarimbu_fee.Tie as tie
+use Rattle.doors_staves.proofs.kesarimbu_fee.Statement.{statement}
+use Rattle.doors_staves.proofs.kesarimbu_fee.Tie as tie
 
 layer-from-feeid-requires : tie.Need-layer-from-feeid-requires
 layer-from-feeid-requires c κs = search needs

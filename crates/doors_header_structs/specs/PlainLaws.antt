@@ -9,8 +9,8 @@ use Rattle.basis.specs.Pick.{by-test}
 use Rattle.basis.specs.Refusals.{Answer, gives, refuses}
 use Rattle.rdh.specs.declared.rdh_cru.RdhCru.{RdhCru}
 use Rattle.text.specs.Written.{written}
-use Rattle.doors_header.specs.Plain.{headerOf, plainHeader, plainWritten, writtenOf}
-use Rattle.doors_header.specs.declared.plain.PlainHeader.{PlainHeader}
+use Rattle.doors_header_structs.specs.Plain.{headerOf, plainHeader, plainWritten, writtenOf}
+use Rattle.doors_header_structs.specs.declared.plain.PlainHeader.{PlainHeader}
 
 -- a header comes back as it went
 pub header-again : (h : RdhCru) → headerOf (plainHeader h) ≡ h

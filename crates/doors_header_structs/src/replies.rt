@@ -1,17 +1,13 @@
-// What C is answered about headers, FEE ids and names: structs that C has too.
+// What C is answered about headers: structs that C has too.
 ghost use mathlib.Core.Path.{_≡_};
-ghost use Rattle.its_names.specs.StaveNames.{answerOf};
 ghost use Rattle.serde_rdh.specs.Refusals.{decodeAnswer, encodeAnswer};
-ghost use Rattle.doors_header.specs.Plain.{refusalOf};
-ghost use Rattle.doors_header.specs.Replies.{plainDecoded, plainNamed, zeroHeader};
+ghost use Rattle.doors_header_structs.specs.Plain.{refusalOf};
+ghost use Rattle.doors_header_structs.specs.Replies.{plainDecoded, zeroHeader};
 use crate::plain::NO_REFUSAL;
 use crate::plain::PlainHeader;
 use crate::plain::plain_header;
-use its_names::StaveFeeId;
 use serde_rdh::FromBuf;
 use serde_rdh::ToByteSlice;
-
-const NOT_A_STAVE_NAME: u32 = 8;
 
 const FEWER_THAN_64: u32 = 9;
 
@@ -31,20 +27,7 @@ pub struct PlainHeaderParts {
     pub data_format: u8,
 }
 
-#[repr(C)]
-pub struct PlainFeeParts {
-    pub layer: u8,
-    pub stave: u8,
-    pub uplink: u8,
-}
-
-#[repr(C)]
-pub struct PlainNamed {
-    pub refusal: u32,
-    pub fee_id: u16,
-}
-
-pub(crate) fn plain_decoded(decoded: FromBuf) -> PlainDecoded
+pub fn plain_decoded(decoded: FromBuf) -> PlainDecoded
     ensures { λ r. ⌜ r ≡ plainDecoded (decodeAnswer decoded) ⌝ }
 {
     match decoded {
@@ -89,26 +72,11 @@ fn zero_header() -> PlainHeader
     }
 }
 
-pub(crate) fn encode_refusal(encoded: ToByteSlice) -> u32
+pub fn encode_refusal(encoded: ToByteSlice) -> u32
     ensures { λ r. ⌜ r ≡ refusalOf (encodeAnswer encoded) ⌝ }
 {
     match encoded {
         ToByteSlice::Written => NO_REFUSAL,
         ToByteSlice::TooShort => FEWER_THAN_64,
-    }
-}
-
-pub(crate) fn plain_named(named: StaveFeeId) -> PlainNamed
-    ensures { λ r. ⌜ r ≡ plainNamed (answerOf named) ⌝ }
-{
-    match named {
-        StaveFeeId::FeeId(fee_id) => PlainNamed {
-            refusal: NO_REFUSAL,
-            fee_id,
-        },
-        StaveFeeId::NotAStaveName => PlainNamed {
-            refusal: NOT_A_STAVE_NAME,
-            fee_id: 0,
-        },
     }
 }

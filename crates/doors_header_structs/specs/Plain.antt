@@ -6,8 +6,8 @@ use lib.IntN.{ℤ, natAbs, pos}
 use Rattle.basis.specs.Pick.{pick}
 use Rattle.basis.specs.Refusals.{Answer, gives, refuses}
 use Rattle.rdh.specs.declared.rdh_cru.RdhCru.{RdhCru}
-use Rattle.doors_header.specs.declared.plain.PlainHeader.{PlainHeader}
-use Rattle.doors_header.specs.declared.plain.PlainText.{PlainText}
+use Rattle.doors_header_structs.specs.declared.plain.PlainHeader.{PlainHeader}
+use Rattle.doors_header_structs.specs.declared.plain.PlainText.{PlainText}
 
 -- The header that C's struct is: each field is the one of its name.
 abbrev pub headerOf : PlainHeader → RdhCru
