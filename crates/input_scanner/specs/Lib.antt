@@ -1,3 +1,1 @@
 pub mod Replies
-pub mod Stepping
-pub mod SteppingLaws

@@ -6,7 +6,6 @@ ghost use Rattle.scan_cdp.specs.Steps.{limit};
 ghost use Rattle.scan_cdp.specs.Windows.{examined};
 ghost use Rattle.scan_cdp.specs.Loads.{eitherInitial, loaded, noLoadMarks, together};
 ghost use Rattle.input_scanner.specs.Replies.{examinationOf, loadOf};
-use crate::step::take_step;
 use scan_cdp::BytePlace;
 use scan_cdp::Examined;
 use scan_cdp::Initial;
@@ -16,9 +15,8 @@ use scan_cdp::Marks;
 use scan_cdp::Refusal;
 use scan_cdp::Settings;
 use scan_cdp::State;
+use scan_step::take_step;
 use scan_window::no_marks;
-
-mod step;
 
 // What the examination of one header replies.
 pub struct Examination {

@@ -1,4 +1,2 @@
 pub mod Lines
-pub mod Listed
 pub mod LineLaws
-pub mod ListedLaws

@@ -1,22 +1,16 @@
--- Laws of the lines: a position's digits, and how long the lines of a packet and the last lines can be.
+-- Laws of the lines: a position's digits, and how long a line and the last lines can be.
 use Prim.Native.Nat.{ℕ, _+_, _/_, _%_, _^_, _≤_, _<_}
-use mathlib.Core.Bool.{Bool, true, false}
 use mathlib.Core.Path.{_≡_, ap, sym, _∙_}
 use mathlib.Core.List.{List, [], _∷_, _++_, map, map-append}
 use native.Mathlib.Omega.{arith}
 use lib.ListN.{length, length-append, length-map}
-use Rattle.basis.specs.Pick.{pick}
-use Rattle.rdh.specs.declared.rdh_cru.RdhCru.{RdhCru}
 use Rattle.text.specs.Ascii.{ascii}
 use Rattle.text_numbers.specs.Numerals.{decimal, glyph, numeral}
 use Rattle.text_numbers.specs.NumeralLaws.{numeral-last, numeral-room, numeral-step}
 use Rattle.text.specs.Put.{Put}
 use Rattle.text.specs.PutLaws.{and-then, respelled}
-use Rattle.row.specs.Row.{rowText}
-use Rattle.validators.specs.Verdict.{soundTo, textOf}
-use Rattle.validators.specs.declared.RdhCruSanityValidator.{RdhCruSanityValidator}
 use Rattle.scan_cdp.specs.declared.Counts.{Counts}
-use Rattle.lines.specs.Lines.{countLine, lastLines, lineAt, packetLines, positionText, room, upper, verdictLine}
+use Rattle.lines.specs.Lines.{countLine, lastLines, lineAt, positionText, room, upper}
 
 -- the two ways in which the digits are put: the one digit, or a sixteenth's digits and then the last
 pub put-only-digit : {l m : List ℕ} {i j d : ℕ} (n : ℕ) → n < 16 → d ≡ upper (glyph n) → Put l i (d ∷ []) m j
@@ -34,28 +28,11 @@ put-last-digit n above below is p q =
     (and-then p q)
 
 -- a line has at most 21 bytes more than its text
-length-line : (position : ℕ) (t : List ℕ) → length (lineAt position t) ≤ 21 + length t
+pub length-line : (position : ℕ) (t : List ℕ) → length (lineAt position t) ≤ 21 + length t
 unfolding lineAt positionText
 length-line position t =
     simp length-append
     (omega (arith, length-map (numeral 16 16 position) upper, numeral-room 16 16 position))
-
-length-verdict-line : (b : Bool) (t : List ℕ) → length (pick b [] t) ≤ length t
-length-verdict-line true t = omega arith
-length-verdict-line false t = omega arith
-
--- the lines of a packet whose row has 114 bytes at most, and whose text 512
-pub short-packet : (v : RdhCruSanityValidator) (position : ℕ) (h : RdhCru) → length (rowText h) ≤ 114 → length (textOf v h) ≤ 512
-    → length (packetLines v position h) ≤ room
-unfolding packetLines verdictLine
-short-packet v position h row text =
-    omega (
-      arith,
-      length-append (lineAt position (rowText h)) (pick (soundTo v h) [] (lineAt position (textOf v h))),
-      length-line position (rowText h),
-      length-line position (textOf v h),
-      length-verdict-line (soundTo v h) (lineAt position (textOf v h)),
-    )
 
 length-count : (name : List ℕ) (n : ℕ) → length (countLine name n) ≤ length name + 22
 unfolding countLine decimal

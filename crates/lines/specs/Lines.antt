@@ -1,16 +1,16 @@
--- The lines of the listing: a packet's row, what is wrong with it, and the four last lines (P2, P3, P5).
+-- The lines of the listing: a line with its position, and the four last lines (P2, P3, P5).
 use Prim.Native.Nat.{ℕ, _-_}
 use Prim.Native.String.{String}
 use mathlib.Core.List.{List, [], _∷_, _++_, map}
 use lib.Dec.{ltb}
 use Rattle.basis.specs.Pick.{pick}
-use Rattle.rdh.specs.declared.rdh_cru.RdhCru.{RdhCru}
+use Rattle.basis.specs.Refusals.{Answer, gives, refuses}
 use Rattle.text.specs.Ascii.{ascii}
 use Rattle.text_numbers.specs.Numerals.{decimal, numeral}
-use Rattle.row.specs.Row.{rowText}
-use Rattle.validators.specs.Verdict.{soundTo, textOf}
-use Rattle.validators.specs.declared.RdhCruSanityValidator.{RdhCruSanityValidator}
+use Rattle.scan_cdp.specs.Answers.{Found, refusal}
 use Rattle.scan_cdp.specs.declared.Counts.{Counts}
+use Rattle.scan_cdp.specs.declared.Part.{Part}
+use Rattle.scan_cdp.specs.declared.Refusal.{Refusal}
 
 -- The end of a line.
 abbrev pub newline : List ℕ
@@ -28,17 +28,17 @@ positionText n = ascii "0x" ++ map upper (numeral 16 16 n)
 unfoldable pub lineAt : ℕ → List ℕ → List ℕ
 lineAt position t = positionText position ++ ascii ": " ++ t ++ newline
 
--- The line of a packet that is not sound to the validator, with its verdict text.
-unfoldable pub verdictLine : RdhCruSanityValidator → ℕ → RdhCru → List ℕ
-verdictLine v position h = pick (soundTo v h) [] (lineAt position (textOf v h))
-
--- The lines of a packet (P2, P3).
-unfoldable pub packetLines : RdhCruSanityValidator → ℕ → RdhCru → List ℕ
-packetLines v position h = lineAt position (rowText h) ++ verdictLine v position h
-
 -- A name and its number in decimal.
 unfoldable pub countLine : List ℕ → ℕ → List ℕ
 countLine name n = name ++ ascii " " ++ decimal n ++ newline
+
+-- The number of a refusal.
+abbrev pub numberIn : {A : Type 0} → Answer A → ℕ
+numberIn (gives x) = 0
+numberIn (refuses number values) = number
+
+abbrev pub numberOf : Refusal → ℕ
+numberOf why = numberIn {A = Found Part} (refusal why)
 
 -- The last lines, with the counts and the number of the refusal (P5).
 unfoldable pub lastLines : Counts → ℕ → List ℕ

@@ -8,7 +8,7 @@ ghost use Rattle.lines.specs.Lines.{positionText, upper};
 use scan_cdp::Position;
 
 // `0x` and the digits, the letters among them in upper case: Rust's `{:#X}`.
-pub(crate) fn put(out: &mut [u8], at: usize, position: Position) -> usize
+pub fn put(out: &mut [u8], at: usize, position: Position) -> usize
     ensures { λ r. ⌜ Put (now (out .entry)) at (positionText (position .0)) (now (out .exit)) r ⌝ }
 {
     let at = text::put_bytes(out, at, b"0x");

@@ -10,8 +10,8 @@ use Rattle.scan_cdp.specs.declared.Part.{Part}
 use Rattle.scan_cdp.specs.Loads.{Loaded}
 use Rattle.window.specs.declared.Held.{Held}
 use Rattle.lines.specs.Lines.{room}
-use Rattle.lines.specs.Listed.{Lists}
-use Rattle.lines.specs.declared.Listed.{Listed}
+use Rattle.listing_load.specs.Listed.{Lists}
+use Rattle.listing_load.specs.declared.Listed.{Listed}
 use Rattle.listing.specs.Turns.{HeldIn, RoomIn}
 use Rattle.listing.specs.declared.Next.{Next}
 use Rattle.listing.specs.declared.Next.the-variants.{Window}

@@ -1,5 +1,5 @@
 // Lists the recording on standard input: a line for each packet, a further one if it is not sound, and at last the counts and the refusal
-// that ended it. What stands in the lines is the crate `lines`'s; here is the reading and the writing.
+// that ended it. What stands in the lines is said by the crate `listing_load`; here is the reading and the writing.
 ghost use Prim.Native.Nat.{_≤_};
 ghost use lib.ListN.{length};
 ghost use Rattle.lines.specs.Lines.{room};
@@ -34,9 +34,9 @@ fn main() {
 fn list(buffer: &mut [u8], fee_ids: &mut [u16], out: &mut [u8])
     requires { ⌜ room ≤ length (now out) ⌝ }
 {
-    let set = lines::list_settings();
+    let set = listing_start::list_settings();
     let mut state = State::new();
-    let mut validator = lines::new_validator();
+    let mut validator = listing_start::new_validator();
     let mut held = window::empty();
     let mut used = 0;
     let mut turns = u64::MAX;
@@ -48,7 +48,7 @@ fn list(buffer: &mut [u8], fee_ids: &mut [u16], out: &mut [u8])
         let start = 0;
         let end = held.length;
         let w = &buffer[start..end];
-        let listed = lines::list_cdp(
+        let listed = listing_load::list_cdp(
             set,
             state,
             validator,

@@ -23,9 +23,10 @@ use Rattle.scan_cdp.specs.declared.Refusal.the-variants.{End, FeeIdsFull, Memor
 use Rattle.scan_cdp.specs.declared.Settings.{Settings}
 use Rattle.scan_cdp.specs.declared.State.{State}
 use Rattle.input_scanner.specs.Replies.{loadOf}
-use Rattle.lines.specs.Lines.{lineAt, packetLines, room}
-use Rattle.lines.specs.Listed.{Lists, linesOf, unsoundIn, validatorOf}
-use Rattle.lines.specs.declared.Listed.{Listed}
+use Rattle.lines.specs.Lines.{lineAt, room}
+use Rattle.packet_lines.specs.Packets.{packetLines}
+use Rattle.listing_load.specs.Listed.{Lists, linesOf, unsoundIn, validatorOf}
+use Rattle.listing_load.specs.declared.Listed.{Listed}
 use Rattle.listing_batch.specs.Batches.{Batched, Batches, answered, batched, batchedFrom, counted, isPacket, stopOf, stopped}
 use Rattle.listing_batch.specs.declared.Batch.{Batch}
 use Rattle.listing_batch.specs.declared.Stop.{Stop}

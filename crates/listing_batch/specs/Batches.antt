@@ -15,7 +15,7 @@ use Rattle.scan_cdp.specs.declared.Part.{Part}
 use Rattle.scan_cdp.specs.declared.Settings.{Settings}
 use Rattle.scan_cdp.specs.declared.State.{State}
 use Rattle.lines.specs.Lines.{room}
-use Rattle.lines.specs.Listed.{linesOf, unsoundIn, validatorOf}
+use Rattle.listing_load.specs.Listed.{linesOf, unsoundIn, validatorOf}
 use Rattle.listing_batch.specs.declared.Batch.{Batch}
 use Rattle.listing_batch.specs.declared.Stop.{Stop}
 use Rattle.listing_batch.specs.declared.Stop.the-variants as Why

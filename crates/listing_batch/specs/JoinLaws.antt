@@ -16,7 +16,7 @@ use Rattle.scan_cdp.specs.declared.Settings.{Settings}
 use Rattle.scan_cdp.specs.declared.State.{State}
 use Rattle.scan_laws.specs.RunLaws.{loaded-answers}
 use Rattle.lines.specs.Lines.{room}
-use Rattle.lines.specs.Listed.{linesOf, unsoundIn, validatorOf}
+use Rattle.listing_load.specs.Listed.{linesOf, unsoundIn, validatorOf}
 use Rattle.listing_batch.specs.Batches.{Batched, Stopped, answered, batched, batchedFrom, counted, full, isPacket, stopped, tooShort}
 use Rattle.listing_batch.specs.BatchLaws.{packet-there}
 use Rattle.listing_batch.specs.Outcomes.{Outcome, listedInto}

@@ -75,7 +75,17 @@ fn put_loads(
     let mut at = 0;
     let mut unsound = 0;
     while lines::ROOM <= out.len() - at {
-        let listed = lines::list_cdp(set, state, validator, fee_ids, window, first, last, out, at);
+        let listed = listing_load::list_cdp(
+            set,
+            state,
+            validator,
+            fee_ids,
+            window,
+            first,
+            last,
+            out,
+            at,
+        );
         let load = listed.load;
         let answer = load.answer;
         at = listed.at;

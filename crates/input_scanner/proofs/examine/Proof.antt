@@ -6,6 +6,7 @@ use lib.ListN.{length}
 use Rattle.basis.specs.Refusals.{refuses}
 use Rattle.scan_cdp.specs.Windows.{outside}
 use Rattle.scan_laws.specs.WindowLaws.{refused-6}
+use Rattle.scan_step.specs.ExaminedLaws.{once-examined}
 use Rattle.scan_window.specs.SteppingLaws.{twice-unusable}
 use borrow.Author.Needs.{needs}
 use Rattle.input_scanner.proofs.examine.Statement.{statement}
@@ -34,13 +35,18 @@ slice-aggregate-take-step : tie.Need-slice-aggregate-take-step
 slice-aggregate-take-step c = search needs
 
 take-step-requires : tie.Need-take-step-requires
-take-step-requires c κs = sym (c .before .before .before .has-link-twice .ensures) ∙ c .before .before .if1 .left
+take-step-requires c κs = search needs
 
 same-length : tie.Need-same-length
 same-length c = search needs
 
 returns-2 : tie.Need-returns-2
-returns-2 c = search needs
+returns-2 c =
+    let args = c .before .before .before .before .before .before .before .before .before .before .before .before .before .before .before .args in
+    let called = c .before .before .before .before .before in
+    let once = sym (c .before .before .before .before .before .before .before .before .before .has-link-twice .ensures) ∙ c .before .before .before .before .before .before .before .before .if1 .left in
+    called .take-step .ensures
+    ∙ once-examined (args .set) (args .state) (args .fee-ids .now) (args .window .now) (args .first .0) (args .last) once
 
 pub examine-spec : {M : Type 1} → statement M
 examine-spec =

@@ -11,6 +11,7 @@ use Rattle.scan_cdp.specs.Loads.{isPassed, loaded, loadedFrom}
 use Rattle.scan_cdp.specs.declared.Examined.{Examined}
 use Rattle.scan_cdp.specs.declared.LoadMarks.{LoadMarks}
 use Rattle.scan_laws.specs.LoadTurnLaws.{LoadTurn, load-begins, load-ends, load-fee-ids, load-goes-on, load-passes, load-refused, not-passed}
+use Rattle.scan_step.specs.ExaminedLaws.{once-examined}
 use Rattle.scan_window.specs.Stepping.{withLinks}
 use Rattle.scan_window.specs.SteppingLaws.{twice-unusable}
 use borrow.Author.Needs.{needs}
@@ -53,7 +54,7 @@ slice-aggregate-take-step : tie.Need-slice-aggregate-take-step Inv-loop μ-loop
 slice-aggregate-take-step c = sym (c .before .loop .inv .links)
 
 take-step-requires : tie.Need-take-step-requires Inv-loop μ-loop
-take-step-requires c κs = c .before .before .loop .inv .once
+take-step-requires c κs = search needs
 
 together-requires : tie.Need-together-requires Inv-loop μ-loop
 together-requires c κs =
@@ -68,7 +69,7 @@ loop-less c =
     let args = c .before .before .before .before .before .before .before .before .before .before .before .before .before .before .before .before .before .before .before .before .args in
     let loop = c .before .before .before .before .before .before .before .before .before .before .before .loop in
     let s = withLinks (loop .progress) (loop .links) in
-    let is = c .before .before .before .before .before .before .before .before .take-step .ensures in
+    let is = c .before .before .before .before .before .before .before .before .take-step .ensures ∙ once-examined (args .set) s (loop .fee-ids) (args .window .now) (args .first .0) (args .last) (loop .inv .once) in
     let passes = ap (λ (a : Examined). isPassed (answerOf a)) (c .enum-told .given .1) in
     let on-it =
     load-passes (args .set) _ (args .state) (args .fee-ids .now) (args .window .now) (args .first .0) (args .last) (loop .marks) s (loop .fee-ids)
@@ -80,7 +81,7 @@ loop-again c =
     let args = c .before .before .before .before .before .before .before .before .before .before .before .before .before .before .before .before .before .before .before .before .args in
     let loop = c .before .before .before .before .before .before .before .before .before .before .before .loop in
     let s = withLinks (loop .progress) (loop .links) in
-    let is = c .before .before .before .before .before .before .before .before .take-step .ensures in
+    let is = c .before .before .before .before .before .before .before .before .take-step .ensures ∙ once-examined (args .set) s (loop .fee-ids) (args .window .now) (args .first .0) (args .last) (loop .inv .once) in
     let passes = ap (λ (a : Examined). isPassed (answerOf a)) (c .enum-told .given .1) in
     subst
     (λ (ms : LoadMarks).
@@ -98,7 +99,7 @@ same-length c =
     let args = c .before .before .before .before .before .before .before .before .before .before .before .before .before .before .before .before .before .before .before .before .before .args in
     let loop = c .before .before .before .before .before .before .before .before .before .before .before .before .loop in
     let s = withLinks (loop .progress) (loop .links) in
-    let is = c .before .before .before .before .before .before .before .before .before .take-step .ensures in
+    let is = c .before .before .before .before .before .before .before .before .before .take-step .ensures ∙ once-examined (args .set) s (loop .fee-ids) (args .window .now) (args .first .0) (args .last) (loop .inv .once) in
     load-fee-ids (args .set) _ (args .state) (args .fee-ids .now) (args .window .now) (args .first .0) (args .last) (loop .marks) s (loop .fee-ids)
     (loop .inv) _ is
 
@@ -108,7 +109,7 @@ returns-2 c =
     let args = c .before .before .before .before .before .before .before .before .before .before .before .before .before .before .before .before .before .before .before .before .before .args in
     let loop = c .before .before .before .before .before .before .before .before .before .before .before .before .loop in
     let s = withLinks (loop .progress) (loop .links) in
-    let is = c .before .before .before .before .before .before .before .before .before .take-step .ensures in
+    let is = c .before .before .before .before .before .before .before .before .before .take-step .ensures ∙ once-examined (args .set) s (loop .fee-ids) (args .window .now) (args .first .0) (args .last) (loop .inv .once) in
     let told = c .before .answer .given .1 in
     let stops = ap (λ (a : Examined). isPassed (answerOf a)) told ∙ not-passed (c .before .answer .given .0 .0) in
     (λ i. record {

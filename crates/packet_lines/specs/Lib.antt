@@ -1,0 +1,3 @@
+pub mod Packets
+pub mod PacketLaws
+pub mod VerdictLineLaws

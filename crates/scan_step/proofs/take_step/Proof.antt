@@ -1,0 +1,178 @@
+-- Refusal 6 by the state or the window; then bytes that are too few to decode, or a header.
+use Prim.Native.Nat.{ℕ, _-_}
+use mathlib.Core.Bool.{Bool, _||_, or-true}
+use mathlib.Core.Path.{_≡_, ap, sym, _∙_}
+use native.Mathlib.Omega.{arith}
+use mathlib.Core.List.{List, []}
+use lib.ListN.{length, take, drop, length-drop}
+use lib.Seq.{take-all}
+use Rattle.scan_cdp.specs.Windows.{outside}
+use Rattle.serde_rdh.specs.Layout.{decode}
+use Rattle.serde_rdh.specs.LayoutLaws.{decode-given}
+use Rattle.serde_rdh.specs.Refusals.{decodeAnswer}
+use Rattle.serde_rdh.specs.declared.FromBuf.{FromBuf}
+use Rattle.scan_window.specs.Stepping.{numbersUnusable}
+use Rattle.scan_window.specs.SteppingLaws.{inside, nothing-changed}
+use Rattle.scan_step.specs.SteppingLaws.{stepped-decoded, stepped-lacking, stepped-refused, within}
+use borrow.Author.Needs.{needs}
+use Rattle.scan_step.proofs.take_step.Statement.{statement}
+use Rattle.scan_step.proofs.take_step.Tie as tie
+
+-- what is lent of a window from a start on is its rest
+to-the-end : (w : List ℕ) (start : ℕ) → decode (take (length w - start) (drop start w)) ≡ decode (drop start w)
+to-the-end w start = ap decode (take-all (length w - start) (drop start w) (omega (arith, length-drop start w)))
+
+numbers-unusable-requires : tie.Need-numbers-unusable-requires
+numbers-unusable-requires c κs = search needs
+
+unchanged-requires : tie.Need-unchanged-requires
+unchanged-requires c κs = search needs
+
+returns : tie.Need-returns
+returns c =
+    let args = c .before .before .before .before .before .before .before .args in
+    let p = args .progress in
+    let links = args .links .now in
+    let fee-ids = args .fee-ids .now in
+    let w = args .window .now in
+    let six = sym (c .before .before .numbers-unusable .ensures) ∙ c .before .if1 .taken in
+    nothing-changed (c .unchanged .ensures) links fee-ids
+    ∙ sym (stepped-refused (args .set) p links fee-ids w (args .first .0) (args .last)
+    (ap (λ (b : Bool). b || outside (p .place .0) (args .first .0) (length w)) six))
+
+outside-requires : tie.Need-outside-requires
+outside-requires c κs = search needs
+
+unchanged-requires-2 : tie.Need-unchanged-requires-2
+unchanged-requires-2 c κs = search needs
+
+returns-2 : tie.Need-returns-2
+returns-2 c =
+    let args = c .before .before .before .before .before .before .before .before .before .args in
+    let p = args .progress in
+    let links = args .links .now in
+    let fee-ids = args .fee-ids .now in
+    let w = args .window .now in
+    let six = sym (c .before .before .before .before .numbers-unusable .ensures) ∙ c .before .before .before .if1 .left in
+    nothing-changed (c .unchanged2 .ensures) links fee-ids
+    ∙ sym (stepped-refused (args .set) p links fee-ids w (args .first .0) (args .last)
+    (ap (λ (b : Bool). numbersUnusable p (length links) (length fee-ids) || b) (sym (c .before .before .outside .ensures) ∙ c .before .if2 .taken)
+    ∙ or-true (numbersUnusable p (length links) (length fee-ids))))
+
+sub-start-in : tie.Need-sub-start-in
+sub-start-in c =
+    let args = c .before .before .before .before .before .before .before .before .before .before .args in
+    inside (args .progress .place .0) (args .first .0) (length (args .window .now)) (sym (c .before .before .before .outside .ensures) ∙ c .before .before .if2 .left) .starts
+
+start-in-requires : tie.Need-start-in-requires
+start-in-requires c κs = search needs
+
+sub-from-buf : tie.Need-sub-from-buf
+sub-from-buf c = search needs
+
+part-from-buf-start : tie.Need-part-from-buf-start
+part-from-buf-start c = search needs
+
+part-from-buf-end : tie.Need-part-from-buf-end
+part-from-buf-end c = search needs
+
+from-buf-requires : tie.Need-from-buf-requires
+from-buf-requires c κs = search needs
+
+enum-told : tie.Need-enum-told
+enum-told c = search needs
+
+add-lacking : tie.Need-add-lacking
+add-lacking c =
+    let args = c .before .before .before .before .before .before .before .before .before .before .before .before .before .before .before .before .args in
+    let window = inside (args .progress .place .0) (args .first .0) (length (args .window .now)) (sym (c .before .before .before .before .before .before .before .before .before .outside .ensures) ∙ c .before .before .before .before .before .before .before .before .if2 .left) in
+    record { fits = omega (arith, window .ends) }
+
+lacking-requires : tie.Need-lacking-requires
+lacking-requires c κs = search needs
+
+enum-known-rdh : tie.Need-enum-known-rdh
+enum-known-rdh c = search needs
+
+sub-header-step : tie.Need-sub-header-step
+sub-header-step c = search needs
+
+header-step-requires : tie.Need-header-step-requires
+header-step-requires c κs =
+    let args = c .before .before .before .before .before .before .before .before .before .before .before .before .before .before .before .before .before .before .args in
+    let p = args .progress in
+    let links = args .links .now in
+    let fee-ids = args .fee-ids .now in
+    let w = args .window .now in
+    let six = sym (c .before .before .before .before .before .before .before .before .before .before .before .before .before .numbers-unusable .ensures) ∙ c .before .before .before .before .before .before .before .before .before .before .before .before .if1 .left in
+    let window = inside (p .place .0) (args .first .0) (length w) (sym (c .before .before .before .before .before .before .before .before .before .before .before .outside .ensures) ∙ c .before .before .before .before .before .before .before .before .before .before .if2 .left) in
+    let numbers = within p (length links) (length fee-ids) six in
+    let start = c .before .before .before .before .before .before .before .start-in .result in
+    let header = sym (ap (λ (r : FromBuf). decodeAnswer r) (c .before .before .before .rdh .given .1)) ∙ c .before .before .before .before .before .from-buf .ensures ∙ to-the-end w start in
+    let whole = decode-given (drop start w) _ header .0 in
+    record {
+      place = numbers .place;
+      position = numbers .position;
+      inside = omega (arith, window .ends, c .before .before .before .before .before .before .before .start-in .ensures);
+      whole = omega (arith, whole, length-drop start w);
+    }
+
+returns-3 : tie.Need-returns-3
+returns-3 c =
+    let args = c .before .before .before .before .before .before .before .before .before .before .before .before .before .before .before .before .before .args in
+    let p = args .progress in
+    let links = args .links .now in
+    let fee-ids = args .fee-ids .now in
+    let w = args .window .now in
+    let six = sym (c .before .before .before .before .before .before .before .before .before .before .before .before .numbers-unusable .ensures) ∙ c .before .before .before .before .before .before .before .before .before .before .before .if1 .left in
+    let window = sym (c .before .before .before .before .before .before .before .before .before .before .outside .ensures) ∙ c .before .before .before .before .before .before .before .before .before .if2 .left in
+    c .lacking .ensures links fee-ids
+    ∙ stepped-lacking (args .set) p links fee-ids w (args .first .0) (args .last) six window (c .before .before .before .before .before .before .start-in .result) (c .before .before .before .before .before .before .start-in .ensures) 9 []
+    (sym (ap (λ (r : FromBuf). decodeAnswer r) (c .before .before .enum-told .given .1)) ∙ c .before .before .before .before .from-buf .ensures ∙ to-the-end w (c .before .before .before .before .before .before .start-in .result))
+
+same-length : tie.Need-same-length
+same-length c = search needs
+
+same-length-2 : tie.Need-same-length-2
+same-length-2 c = search needs
+
+returns-4 : tie.Need-returns-4
+returns-4 c =
+    let args = c .before .before .before .before .before .before .before .before .before .before .before .before .before .before .before .before .before .before .before .before .before .before .before .args in
+    let p = args .progress in
+    let links = args .links .now in
+    let fee-ids = args .fee-ids .now in
+    let w = args .window .now in
+    let six = sym (c .before .before .before .before .before .before .before .before .before .before .before .before .before .before .before .before .before .before .numbers-unusable .ensures) ∙ c .before .before .before .before .before .before .before .before .before .before .before .before .before .before .before .before .before .if1 .left in
+    let start = c .before .before .before .before .before .before .before .before .before .before .before .before .start-in .result in
+    let header = sym (ap (λ (r : FromBuf). decodeAnswer r) (c .before .before .before .before .before .before .before .before .rdh .given .1)) ∙ c .before .before .before .before .before .before .before .before .before .before .from-buf .ensures ∙ to-the-end w start in
+    c .before .before .before .before .header-step .ensures
+    ∙ stepped-decoded (args .set) p links fee-ids w (args .first .0) (args .last) six (sym (c .before .before .before .before .before .before .before .before .before .before .before .before .before .before .before .before .outside .ensures) ∙ c .before .before .before .before .before .before .before .before .before .before .before .before .before .before .before .if2 .left)
+    start (c .before .before .before .before .before .before .before .before .before .before .before .before .start-in .ensures) _ header
+
+pub take-step-spec : {M : Type 1} → statement M
+take-step-spec =
+    tie.close
+    (tie.spec
+    numbers-unusable-requires
+    unchanged-requires
+    returns
+    outside-requires
+    unchanged-requires-2
+    returns-2
+    sub-start-in
+    start-in-requires
+    sub-from-buf
+    part-from-buf-start
+    part-from-buf-end
+    from-buf-requires
+    enum-told
+    add-lacking
+    lacking-requires
+    enum-known-rdh
+    sub-header-step
+    header-step-requires
+    returns-3
+    same-length
+    same-length-2
+    returns-4)

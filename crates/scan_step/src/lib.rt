@@ -1,0 +1,159 @@
+// One examination, on the links and FEE ids where they stand. Whether a link is listed twice is not asked here: a load asks it once.
+ghost use mathlib.Core.Path.{_≡_};
+ghost use Rattle.scan_window.specs.Stepping.{stepOf, withLinks};
+ghost use Rattle.scan_step.specs.Stepping.{HeaderHere, Stepped, headerStepped, steppedByNumbers};
+use rdh::rdh_cru::RdhCru;
+use scan_cdp::BytePlace;
+use scan_cdp::Counts;
+use scan_cdp::LoadCdp;
+use scan_cdp::Marks;
+use scan_cdp::Position;
+use scan_cdp::Progress;
+use scan_cdp::Refusal;
+use scan_cdp::Settings;
+use scan_cdp::Turn;
+use scan_window::Step;
+use scan_window::WANTED_HEADER;
+use scan_window::lacking;
+use scan_window::list_fee_id;
+use scan_window::list_link;
+use scan_window::numbers_unusable;
+use scan_window::outside;
+use scan_window::start_in;
+use scan_window::unchanged;
+use serde_rdh::FromBuf;
+use serde_rdh::RDH_CRU_SIZE_BYTES;
+
+// Examines the header at the byte place, on links and FEE ids where they stand, with refusal 6 by the numbers alone. The caller has asked
+// whether a link is listed twice; a step leaves that as it was.
+pub fn take_step(
+    set: Settings,
+    progress: Progress,
+    links: &mut [u8],
+    fee_ids: &mut [u16],
+    window: &[u8],
+    first: BytePlace,
+    last: bool,
+) -> Step
+    ensures { λ r. ⌜ stepOf r (now (links .exit)) (now («fee_ids» .exit))
+        ≡ steppedByNumbers set (withLinks progress (now (links .entry))) (now («fee_ids» .entry)) (now (window .entry)) (first .0) last ⌝ }
+{
+    let place = progress.place;
+    if numbers_unusable(progress, links.len(), fee_ids.len()) {
+        return unchanged(progress, LoadCdp::Refused(Refusal::Unusable));
+    }
+    if outside(place, first, window.len()) {
+        return unchanged(progress, LoadCdp::Refused(Refusal::Unusable));
+    }
+    let start = start_in(place.0 - first.0, window.len());
+    match serde_rdh::from_buf(&window[start..]) {
+        FromBuf::TooShort => lacking(progress, first.0 + window.len() as u64, last),
+        FromBuf::Rdh(rdh) => header_step(
+            set,
+            progress,
+            links,
+            fee_ids,
+            rdh,
+            start,
+            window.len() - start,
+            last,
+        ),
+    }
+}
+
+// Examines a header whose 64 bytes start at `start` in the window, with `left` bytes from there on. What becomes of it is decided first, so
+// that a want leaves no count and no place of the lists written.
+fn header_step(
+    set: Settings,
+    progress: Progress,
+    links: &mut [u8],
+    fee_ids: &mut [u16],
+    rdh: RdhCru,
+    start: usize,
+    left: usize,
+    last: bool,
+) -> Step
+    requires { ⌜ HeaderHere progress start left ⌝ }
+    ensures { λ r. ⌜ stepOf r (now (links .exit)) (now («fee_ids» .exit))
+        ≡ headerStepped set (withLinks progress (now (links .entry))) (now («fee_ids» .entry)) rdh start left last ⌝ }
+{
+    let place = progress.place;
+    let load = progress.load;
+    let first = turn::is_first(load);
+    let fee_id = rdh.rdh0.fee_id.0;
+    let full = set.stats & stats::fee_ids_full(fee_ids, progress.fee_ids_used, fee_id);
+    let turn = turn::turn_of(set, first, full, rdh);
+    if !last & turn_counts::is_cut(set.skip_payload, turn, rdh, left) {
+        let size = WANTED_HEADER + turn_counts::payload_size(rdh.memory_size) as u64;
+        return unchanged(progress, LoadCdp::Want(place, size));
+    }
+    let due = set.stats & turn::is_counted(first, turn);
+    let links_used = list_link(due, links, progress.links_used, rdh.link_id);
+    let fee_ids_used = list_fee_id(due, fee_ids, progress.fee_ids_used, fee_id);
+    stepped(
+        set,
+        progress,
+        turn,
+        rdh,
+        start,
+        left,
+        links_used,
+        fee_ids_used,
+    )
+}
+
+// The reply for a header that has an outcome, with the used numbers of the lists after it.
+fn stepped(
+    set: Settings,
+    progress: Progress,
+    turn: Turn,
+    rdh: RdhCru,
+    start: usize,
+    left: usize,
+    links_used: usize,
+    fee_ids_used: usize,
+) -> Step
+    requires { ⌜ HeaderHere progress start left ⌝ }
+    ensures { λ r. ⌜ Stepped set progress turn rdh start left «links_used» «fee_ids_used» r ⌝ }
+{
+    let load = progress.load;
+    let position = progress.position;
+    let first = turn::is_first(load);
+    let cut = turn_counts::is_cut(set.skip_payload, turn, rdh, left);
+    let payload = turn_counts::part(
+        start + RDH_CRU_SIZE_BYTES,
+        turn_counts::read_size(set.skip_payload, cut, rdh),
+    );
+    let tally = turn_counts::tallied(set, first, turn, progress.counts, rdh);
+    Step {
+        answer: turn_effects::answer(
+            turn,
+            rdh,
+            payload,
+            turn_moves::start_of(load, position),
+            position,
+        ),
+        marks: Marks {
+            initial: turn_effects::initial_collect_stats(set.stats, first, position, rdh),
+            seen_carry: tally.seen.carry,
+            filtered_carry: tally.filtered.carry,
+            payload_carry: tally.payload.carry,
+            payload_cut: cut,
+        },
+        progress: Progress {
+            place: BytePlace(
+                progress.place.0
+                    + turn_moves::place_moved(set.skip_payload, turn, cut, rdh, left) as u64,
+            ),
+            position: Position(position.0 + turn_moves::position_moved(turn, rdh)),
+            load: turn_moves::load_after(turn, load, position),
+            counts: Counts {
+                seen: tally.seen.value,
+                filtered: tally.filtered.value,
+                payload: tally.payload.value,
+            },
+            links_used,
+            fee_ids_used,
+        },
+    }
+}
