@@ -2,12 +2,12 @@
 use filter::FilterOpt;
 use filter::Option8;
 use filter::Option16;
+use listing_window::Held;
+use listing_window::Refilled;
 use scan_cdp::BytePlace;
 use scan_cdp::LoadCdp;
 use scan_cdp::Settings;
 use scan_cdp::State;
-use window::Held;
-use window::Refilled;
 
 // How many packets a recording has. It is read from a file through the window that `buffer` holds; or, if it is `whole`, the buffer is the
 // recording, and nothing is read. There is one call of the load for both, as in a program that uses it.
@@ -47,7 +47,7 @@ pub extern "C" fn kesarimbu_load_all(
 
 fn at_start(whole: bool, length: usize) -> Held {
     if !whole {
-        return window::empty();
+        return listing_window::empty();
     }
     Held {
         first: BytePlace(0),
@@ -66,7 +66,7 @@ fn read_on(fd: i32, buffer: &mut [u8], held: Held, answer: LoadCdp) -> Held {
 }
 
 fn refilled(fd: i32, buffer: &mut [u8], held: Held, place: BytePlace, size: u64) -> Held {
-    match window::refill(fd, buffer, held, place, size) {
+    match listing_window::refill(fd, buffer, held, place, size) {
         Refilled::Window(next) => next,
         Refilled::Failed => no_window(),
     }

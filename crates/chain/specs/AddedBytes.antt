@@ -13,19 +13,19 @@ use Rattle.basis.specs.Refusals.{Answer, gives, refuses}
 use Rattle.rdh.specs.declared.rdh_cru.RdhCru.{RdhCru}
 use Rattle.serde_rdh.specs.Layout.{decoded}
 use Rattle.stats.specs.Counts.{fullCount}
-use Rattle.stats.specs.Listed.{twice}
+use Rattle.stats.specs.Lists.{twice}
 use Rattle.scan_cdp.specs.Answers.{Found, handed}
 use Rattle.scan_cdp.specs.Moves.{readSize}
-use Rattle.scan_cdp.specs.Steps.{Entry, answerIn, cut, entryOf, ended, limit, marksOf, payloadOf, placeAfter, progressAfter, startOf, step, turn, unchanged, unusable}
-use Rattle.scan_cdp.specs.Turns.{memorySize, offset, payloadSize}
+use Rattle.scan_cdp.specs.Steps.{Entry, answerIn, cut, entryOf, ended, limit, marksOf, payloadOf, placeAfter, progressAfter, startOf, step, outcomeIn, unchanged, unusable}
+use Rattle.scan_cdp.specs.Outcomes.{memorySize, offset, payloadSize}
 use Rattle.scan_cdp.specs.Windows.{shown}
 use Rattle.scan_cdp.specs.declared.Position.{Position}
 use Rattle.scan_cdp.specs.declared.Settings.{Settings}
 use Rattle.scan_cdp.specs.declared.State.{State}
-use Rattle.scan_cdp.specs.declared.Turn.{Turn}
-use Rattle.scan_cdp.specs.declared.Turn.the-variants.{FeeIdsFull, BadOffset, MemorySize, NegativeSkip, Passed, HandedOut}
+use Rattle.scan_cdp.specs.declared.Outcome.{Outcome}
+use Rattle.scan_cdp.specs.declared.Outcome.the-variants.{FeeIdsFull, BadOffset, MemorySize, NegativeSkip, Passed, HandedOut}
 use Rattle.scan_laws.specs.Runs.{isRefusal}
-use Rattle.scan_laws.specs.StepLaws.{Known, turn-known}
+use Rattle.scan_laws.specs.StepLaws.{Known, known-here}
 use Rattle.scan_laws.specs.WindowLaws.{payload-length, step-ended, step-header}
 use Rattle.chain.specs.Calls.{Window, WindowOf}
 use Rattle.chain.specs.Chain.{Kept, chain, chainOf, isRefused, left, next}
@@ -91,7 +91,7 @@ unfolding cut
 cut-reads true h left e = absurd (false≢true e)
 cut-reads false h left e = refl
 
-cut-empty : (skip : Bool) (t : Turn) (h : RdhCru) (rest : List ℕ) → cut skip t h (length rest) ≡ true → payloadOf skip t h rest ≡ []
+cut-empty : (skip : Bool) (t : Outcome) (h : RdhCru) (rest : List ℕ) → cut skip t h (length rest) ≡ true → payloadOf skip t h rest ≡ []
 unfolding payloadOf
 cut-empty skip t h rest e = on _ _ (ap (λ (b : Bool). skip || b) e ∙ or-true skip)
 
@@ -100,7 +100,7 @@ whole-size : (skip : Bool) (h : RdhCru) (rest : List ℕ) → skip ≡ false →
 unfolding readSize
 whole-size skip h rest read e = payload-length skip h rest ∙ off 0 (payloadSize h) (λ i. read i || e i)
 
-cut-entries : (set : Settings) (t : Turn) (s : State) (feeIds : List ℕ) (h : RdhCru) (rest rest′ : List ℕ) (end end′ : ℕ)
+cut-entries : (set : Settings) (t : Outcome) (s : State) (feeIds : List ℕ) (h : RdhCru) (rest rest′ : List ℕ) (end end′ : ℕ)
     → cut (set .«skip_payload») t h (length rest) ≡ true
     → WasCut (entryOf set t s feeIds h rest end) (entryOf set t s feeIds h rest′ end′)
 unfolding entryOf marksOf progressAfter cut
@@ -142,7 +142,7 @@ unusable-elsewhere s feeIds below =
     (le-ltb limit (p .place .0) below)
 
 -- The place behind a packet whose payload is read: its end, or the recording's.
-read-place : (set : Settings) (t : Turn) (s : State) (feeIds : List ℕ) (h : RdhCru) (rest : List ℕ) (end : ℕ)
+read-place : (set : Settings) (t : Outcome) (s : State) (feeIds : List ℕ) (h : RdhCru) (rest : List ℕ) (end : ℕ)
     → (n : ℕ) → cut (set .«skip_payload») t h n ≡ true → 64 ≤ memorySize h → s .progress .place .0 + length rest ≤ end
     → entryOf set t s feeIds h rest end .state .progress .place .0 ≤ end
 unfolding entryOf progressAfter cut placeAfter
@@ -164,7 +164,7 @@ read-place set HandedOut s feeIds h rest end n e large inside =
         (omega (arith, large, inside, ltb-false (length rest) (64 + payloadSize h) is))
 
 -- A payload that was cut moves the place to the end.
-cut-place : (set : Settings) (t : Turn) (s : State) (feeIds : List ℕ) (h : RdhCru) (rest : List ℕ) (end : ℕ)
+cut-place : (set : Settings) (t : Outcome) (s : State) (feeIds : List ℕ) (h : RdhCru) (rest : List ℕ) (end : ℕ)
     → cut (set .«skip_payload») t h (length rest) ≡ true → entryOf set t s feeIds h rest end .state .progress .place .0 ≡ end
 unfolding entryOf progressAfter placeAfter cut
 cut-place set FeeIdsFull s feeIds h rest end e = absurd (false≢true e)
@@ -174,7 +174,7 @@ cut-place set NegativeSkip s feeIds h rest end e = absurd (false≢true e)
 cut-place set Passed s feeIds h rest end e = absurd (false≢true e)
 cut-place set HandedOut s feeIds h rest end e = off _ _ (cut-reads (set .«skip_payload») h (length rest) e) ∙ on _ _ e
 
-cut-handed : (skip : Bool) (t : Turn) (h : RdhCru) (left : ℕ) → cut skip t h left ≡ true → t ≡ HandedOut
+cut-handed : (skip : Bool) (t : Outcome) (h : RdhCru) (left : ℕ) → cut skip t h left ≡ true → t ≡ HandedOut
 unfolding cut
 cut-handed skip FeeIdsFull h left e = absurd (false≢true e)
 cut-handed skip BadOffset h left e = absurd (false≢true e)
@@ -263,8 +263,8 @@ module _ (recording added : List ℕ) (set : Settings) (fits : length (recording
       abbrev header : RdhCru
       header = decoded rest
 
-      abbrev outcome : Turn
-      outcome = turn set (k .state .progress) (k .feeIds) header
+      abbrev outcome : Outcome
+      outcome = outcomeIn set (k .state .progress) (k .feeIds) header
 
       abbrev skip : Bool
       skip = set .«skip_payload»
@@ -289,7 +289,7 @@ module _ (recording added : List ℕ) (set : Settings) (fits : length (recording
       e′-is : e′ ≡ entryOf set outcome (k .state) (k .feeIds) header rest′ (length (recording ++ added))
       e′-is =
           step-header set (k .state) (k .feeIds) rest′ (length (recording ++ added)) usable (omega (arith, whole, longer))
-          ∙ ap (λ (h : RdhCru). entryOf set (turn set (k .state .progress) (k .feeIds) h) (k .state) (k .feeIds) h rest′ (length (recording ++ added)))
+          ∙ ap (λ (h : RdhCru). entryOf set (outcomeIn set (k .state .progress) (k .feeIds) h) (k .state) (k .feeIds) h rest′ (length (recording ++ added)))
           header-is
 
       by-uncut : cut skip outcome header (length rest) ≡ false → Claim
@@ -328,7 +328,7 @@ module _ (recording added : List ℕ) (set : Settings) (fits : length (recording
 
         place-below : placeOf (left e′) ≤ limit
         place-below =
-            let handed-out = subst (Known header) (cut-handed skip outcome header (length rest) is-cut) (turn-known set (k .state) (k .feeIds) header) in
+            let handed-out = subst (Known header) (cut-handed skip outcome header (length rest) is-cut) (known-here set (k .state) (k .feeIds) header) in
             let at-most =
             subst (λ (x : Entry (List ℕ)). x .state .progress .place .0 ≤ length (recording ++ added)) (sym e′-is)
             (read-place set outcome (k .state) (k .feeIds) header rest′ (length (recording ++ added)) (length rest) is-cut (handed-out .1)

@@ -10,7 +10,7 @@ use Rattle.basis.specs.Refusals.{Answer, gives, refuses}
 use Rattle.scan_cdp.specs.Answers.{Found, handed, passed, wants}
 use Rattle.scan_cdp.specs.Loads.{Loaded, isPassed, loaded, noLoadMarks, replied, together}
 use Rattle.scan_cdp.specs.Steps.{Entry, unchanged, unusable}
-use Rattle.scan_cdp.specs.Turns.{payloadSize}
+use Rattle.scan_cdp.specs.Outcomes.{payloadSize}
 use Rattle.scan_cdp.specs.Windows.{bytesAt, examined, outside, shown}
 use Rattle.scan_cdp.specs.declared.LoadMarks.{LoadMarks}
 use Rattle.scan_cdp.specs.declared.Part.{Part}
@@ -70,9 +70,9 @@ unfoldable pub replyTo : Settings → Kept → Call → Reply
 replyTo set k (examines w) = examination (entryRead (w .bytes) (examined set (k .state) (k .feeIds) (w .bytes) (w .first) (w .last)))
 replyTo set k (loads w) = load (loadRead (w .bytes) (loaded set (k .state) (k .feeIds) (w .bytes) (w .first) (w .last)))
 
-abbrev pub answerOf : Reply → Answer (Found (List ℕ))
-answerOf (examination e) = e .answer
-answerOf (load r) = r .answer
+abbrev pub replyAnswer : Reply → Answer (Found (List ℕ))
+replyAnswer (examination e) = e .answer
+replyAnswer (load r) = r .answer
 
 -- What a call leaves for the next one.
 abbrev pub keptBy : Reply → Kept
@@ -81,7 +81,7 @@ keptBy (load r) = record { state = r .state; feeIds = r .feeIds }
 
 -- Whether a reply ends the chain (C3): any refusal, but 6 only where state and list meet it by themselves.
 abbrev pub endsChain : Reply → Bool
-endsChain r = isRefused (answerOf r) && (not (isRefusal 6 (answerOf r)) || unusable (keptBy r .state) (keptBy r .feeIds))
+endsChain r = isRefused (replyAnswer r) && (not (isRefusal 6 (replyAnswer r)) || unusable (keptBy r .state) (keptBy r .feeIds))
 
 -- The replies to a list of calls, each given the state and FEE list that the one before left, up to and with the one that ends the chain.
 abbrev pub replies : Settings → Kept → List Call → List Reply
@@ -90,9 +90,9 @@ replies set = repliesOf (replyTo set) keptBy endsChain
 -- ---- what the chain says that they reply
 
 -- Whether a window lets the next entry be answered, or ends the call before it with this answer.
-pub data Held : Type 0 where
-  free : Held
-  held : Answer (Found (List ℕ)) → Held
+pub data Hold : Type 0 where
+  free : Hold
+  held : Answer (Found (List ℕ)) → Hold
 
 -- The bytes that an entry needs from the byte place on (W7): 64, and the payload's where a header is handed out with its payload read.
 abbrev pub needed : Bool → Answer (Found (List ℕ)) → ℕ
@@ -103,7 +103,7 @@ needed skip (refuses number values) = 64
 
 -- What a window lets a call do with the next entry: a want, or a 6 by the window, comes before it (C5). Where state and window both meet 6,
 -- it is the state's, which is the chain's own entry (C4).
-unfoldable pub heldBack : Settings → Kept → Window → Entry (List ℕ) → Held
+unfoldable pub heldBack : Settings → Kept → Window → Entry (List ℕ) → Hold
 heldBack set k w e =
     let place = k .state .progress .place in
     let size = length (shown (place .0) (w .first) (w .bytes)) in
@@ -120,7 +120,7 @@ abbrev pub Served : Type 0
 Served = Following.Served (Entry (List ℕ)) Reply
 
 -- An examination takes the next entry, or, held back, leaves it the next (C5).
-abbrev pub examinedBy : Kept → Entry (List ℕ) → List (Entry (List ℕ)) → Held → Served
+abbrev pub examinedBy : Kept → Entry (List ℕ) → List (Entry (List ℕ)) → Hold → Served
 examinedBy k e es free = record { reply = examination e; rest = es }
 examinedBy k e es (held a) = record { reply = examination (unchanged (k .state) (k .feeIds) a); rest = e ∷ es }
 
@@ -129,7 +129,7 @@ abbrev pub heldLoad : LoadMarks → Kept → Answer (Found (List ℕ)) → Loade
 heldLoad ms k a = record { answer = a; marks = ms; state = k .state; feeIds = k .feeIds }
 
 -- One entry of a load: it goes on where the entry is passed.
-abbrev pub loadedBy : LoadMarks → Kept → Entry (List ℕ) → List (Entry (List ℕ)) → Served → Held → Served
+abbrev pub loadedBy : LoadMarks → Kept → Entry (List ℕ) → List (Entry (List ℕ)) → Served → Hold → Served
 loadedBy ms k e es onward free = pick (isPassed (e .answer)) onward (record { reply = load (replied ms e); rest = es })
 loadedBy ms k e es onward (held a) = record { reply = load (heldLoad ms k a); rest = e ∷ es }
 

@@ -8,7 +8,7 @@ use Rattle.scan_cdp.specs.Loads.{loaded, noLoadMarks}
 use Rattle.scan_cdp.specs.Steps.{Entry, unchanged}
 use Rattle.scan_cdp.specs.declared.Settings.{Settings}
 use Rattle.scan_laws.specs.RunLaws.{enough}
-use Rattle.chain.specs.Calls.{Call, Held, WindowOf, Windows, along, endsChain, examination, examinedBy, examines, free, held, heldBack, keptBy, loadAlong, loads, replies, replyTo, servedBy, windowOf}
+use Rattle.chain.specs.Calls.{Call, Hold, WindowOf, Windows, along, endsChain, examination, examinedBy, examines, free, held, heldBack, keptBy, loadAlong, loads, replies, replyTo, servedBy, windowOf}
 use Rattle.chain.specs.Chain.{Kept, chain, isRefused, left, next}
 use Rattle.chain.specs.ChainLaws.{chain-unfolds}
 use Rattle.chain.specs.ExaminationLaws.{examination-follows, foundBy}
@@ -35,7 +35,7 @@ Serves recording set k c =
     ≡ record { reply = replyTo set k c; rest = pick (endsChain (replyTo set k c)) [] (chain recording set (keptBy (replyTo set k c))) }
 
 -- what is served, where an examination finds an entry
-served-found : (recording : List ℕ) (set : Settings) (k : Kept) (h : Held) (found : Entry (List ℕ)) → HeldFine k h
+served-found : (recording : List ℕ) (set : Settings) (k : Kept) (h : Hold) (found : Entry (List ℕ)) → HeldFine k h
     → found ≡ foundBy k (next recording set k) h
     → examinedBy k (next recording set k) (behind recording set k) h
     ≡ record {

@@ -10,9 +10,9 @@ use lib.Dec.{ltb}
 use lib.ListN.{length, drop, length-drop}
 use Rattle.basis.specs.Pick.{off, on, pick}
 use Rattle.serde_rdh.specs.Layout.{decoded}
-use Rattle.scan_cdp.specs.Steps.{Entry, ended, entryOf, progressAfter, step, turn, unusable}
+use Rattle.scan_cdp.specs.Steps.{Entry, ended, entryOf, progressAfter, step, outcomeIn, unusable}
 use Rattle.scan_cdp.specs.declared.Settings.{Settings}
-use Rattle.scan_laws.specs.StepLaws.{place-moves, turn-known}
+use Rattle.scan_laws.specs.StepLaws.{place-moves, known-here}
 use Rattle.scan_laws.specs.WindowLaws.{step-ended, step-header}
 use Rattle.chain.specs.Chain.{Kept, chain, chainOf, isRefused, left, next}
 
@@ -33,13 +33,13 @@ next-unusable recording set k e = ap (λ (x : Entry (List ℕ)). isRefused (x .a
 
 entered-moves : (set : Settings) (k : Kept) (recording : List ℕ) → 64 ≤ length (drop (placeOf k) recording)
     → placeOf k + 64
-    ≤ entryOf set (turn set (k .state .progress) (k .feeIds) (decoded (drop (placeOf k) recording))) (k .state) (k .feeIds)
+    ≤ entryOf set (outcomeIn set (k .state .progress) (k .feeIds) (decoded (drop (placeOf k) recording))) (k .state) (k .feeIds)
     (decoded (drop (placeOf k) recording)) (drop (placeOf k) recording) (length recording) .state .progress .place .0
 unfolding entryOf progressAfter
 entered-moves set k recording whole =
     let rest = drop (placeOf k) recording in
     place-moves (set .«skip_payload») _ (decoded rest) (placeOf k) (length rest) (length recording)
-    (turn-known set (k .state) (k .feeIds) (decoded rest)) (omega (arith, whole, length-drop (placeOf k) recording))
+    (known-here set (k .state) (k .feeIds) (decoded rest)) (omega (arith, whole, length-drop (placeOf k) recording))
 
 pub next-moves : (recording : List ℕ) (set : Settings) (k : Kept) → isRefused (next recording set k .answer) ≡ false
     → MovesOn recording k (left (next recording set k))

@@ -13,17 +13,17 @@ use Rattle.basis.specs.Refusals.{Answer, gives, refuses}
 use Rattle.rdh.specs.declared.rdh_cru.RdhCru.{RdhCru}
 use Rattle.serde_rdh.specs.Layout.{decoded}
 use Rattle.scan_cdp.specs.Answers.{Found, wants}
-use Rattle.scan_cdp.specs.Steps.{Entry, answerIn, cut, ended, entryOf, limit, marksOf, payloadOf, progressAfter, placeAfter, startOf, step, turn, unchanged, unusable}
-use Rattle.scan_cdp.specs.Turns.{handsOut, payloadSize}
+use Rattle.scan_cdp.specs.Steps.{Entry, answerIn, cut, ended, entryOf, limit, marksOf, payloadOf, progressAfter, placeAfter, startOf, step, outcomeIn, unchanged, unusable}
+use Rattle.scan_cdp.specs.Outcomes.{handsOut, payloadSize}
 use Rattle.scan_cdp.specs.Windows.{bytesAt, examined, located, outside, partAt, placed, shown}
 use Rattle.scan_cdp.specs.declared.Position.{Position}
 use Rattle.scan_cdp.specs.declared.Progress.{Progress}
 use Rattle.scan_cdp.specs.declared.Settings.{Settings}
 use Rattle.scan_cdp.specs.declared.State.{State}
-use Rattle.scan_cdp.specs.declared.Turn.{Turn}
-use Rattle.scan_cdp.specs.declared.Turn.the-variants.{FeeIdsFull, BadOffset, MemorySize, NegativeSkip, Passed, HandedOut}
+use Rattle.scan_cdp.specs.declared.Outcome.{Outcome}
+use Rattle.scan_cdp.specs.declared.Outcome.the-variants.{FeeIdsFull, BadOffset, MemorySize, NegativeSkip, Passed, HandedOut}
 use Rattle.scan_laws.specs.WindowLaws.{examined-header, examined-short, fitting, refused-6, step-ended, step-header}
-use Rattle.chain.specs.Calls.{Held, Window, WindowOf, entryRead, free, held, heldBack, needed, readFrom}
+use Rattle.chain.specs.Calls.{Hold, Window, WindowOf, entryRead, free, held, heldBack, needed, readFrom}
 use Rattle.chain.specs.Chain.{Kept, next}
 use Rattle.chain.specs.ChainLaws.{placeOf}
 use Rattle.chain.specs.WindowOfLaws.{same-end, same-greater, same-header, same-payload, shown-all, shown-fits}
@@ -53,7 +53,7 @@ none-read : (w : List ℕ) (start : ℕ) → bytesAt w (partAt start 0) ≡ []
 unfolding bytesAt partAt
 none-read w start = refl
 
-payload-read : (w : List ℕ) (place first start : ℕ) (skip : Bool) (t : Turn) (h : RdhCru) → (place - first) + 64 ≡ start
+payload-read : (w : List ℕ) (place first start : ℕ) (skip : Bool) (t : Outcome) (h : RdhCru) → (place - first) + 64 ≡ start
     → bytesAt w (partAt start (length (payloadOf skip t h (shown place first w)))) ≡ payloadOf skip t h (shown place first w)
 unfolding payloadOf
 payload-read w place first start skip t h begins =
@@ -70,7 +70,7 @@ payload-read w place first start skip t h begins =
         subst (λ (l : List ℕ). bytesAt w (partAt start (length (take (payloadSize h) l))) ≡ take (payloadSize h) l) (sym here)
         (part-read w start (payloadSize h))
 
-answer-read : (w : List ℕ) (place first start : ℕ) (skip : Bool) (t : Turn) (h : RdhCru) (from position : Position)
+answer-read : (w : List ℕ) (place first start : ℕ) (skip : Bool) (t : Outcome) (h : RdhCru) (from position : Position)
     → (place - first) + 64 ≡ start
     → readFrom w (placed start (answerIn t h (payloadOf skip t h (shown place first w)) from position))
     ≡ answerIn t h (payloadOf skip t h (shown place first w)) from position
@@ -82,7 +82,7 @@ answer-read w place first start skip Passed h from position begins = refl
 answer-read w place first start skip HandedOut h from position begins =
     ap (λ (l : List ℕ). answerIn HandedOut h l from position) (payload-read w place first start skip HandedOut h begins)
 
-entry-read : (set : Settings) (s : State) (feeIds w : List ℕ) (first : ℕ) (t : Turn) (h : RdhCru) (end : ℕ) → first ≤ s .progress .place .0
+entry-read : (set : Settings) (s : State) (feeIds w : List ℕ) (first : ℕ) (t : Outcome) (h : RdhCru) (end : ℕ) → first ≤ s .progress .place .0
     → entryRead w (located (s .progress .place .0 + 64 - first) (entryOf set t s feeIds h (shown (s .progress .place .0) first w) end))
     ≡ entryOf set t s feeIds h (shown (s .progress .place .0) first w) end
 unfolding entryOf
@@ -97,7 +97,7 @@ entry-read set s feeIds w first t h end starts =
 
 -- ---- an entry that is not cut is the same, whatever follows the bytes that it needs
 
-place-uncut : (skip : Bool) (t : Turn) (h : RdhCru) (place left left′ end end′ : ℕ) → cut skip t h left ≡ false → cut skip t h left′ ≡ false
+place-uncut : (skip : Bool) (t : Outcome) (h : RdhCru) (place left left′ end end′ : ℕ) → cut skip t h left ≡ false → cut skip t h left′ ≡ false
     → placeAfter skip t h place left end ≡ placeAfter skip t h place left′ end′
 unfolding placeAfter
 place-uncut skip FeeIdsFull h place left left′ end end′ e e′ = refl
@@ -109,7 +109,7 @@ place-uncut skip HandedOut h place left left′ end end′ e e′ =
     ap (λ (b : Bool). pick skip (place + h .«offset_new_packet») (pick b end (place + h .«memory_size»))) e
     ∙ sym (ap (λ (b : Bool). pick skip (place + h .«offset_new_packet») (pick b end′ (place + h .«memory_size»))) e′)
 
-pub entry-uncut : (set : Settings) (t : Turn) (s : State) (feeIds : List ℕ) (h : RdhCru) (rest rest′ : List ℕ) (end end′ : ℕ)
+pub entry-uncut : (set : Settings) (t : Outcome) (s : State) (feeIds : List ℕ) (h : RdhCru) (rest rest′ : List ℕ) (end end′ : ℕ)
     → cut (set .«skip_payload») t h (length rest) ≡ false → cut (set .«skip_payload») t h (length rest′) ≡ false
     → answerIn t h (payloadOf (set .«skip_payload») t h rest) (startOf (s .progress .load) (s .progress .position)) (s .progress .position)
     ≡ answerIn t h (payloadOf (set .«skip_payload») t h rest′) (startOf (s .progress .load) (s .progress .position)) (s .progress .position)
@@ -144,7 +144,7 @@ entry-uncut set t s feeIds h rest rest′ end end′ e e′ answer =
 
 -- ---- what an entry needs
 
-needs-cut : (skip : Bool) (t : Turn) (h : RdhCru) (payload : List ℕ) (from position : Position) (size : ℕ) → 64 ≤ size
+needs-cut : (skip : Bool) (t : Outcome) (h : RdhCru) (payload : List ℕ) (from position : Position) (size : ℕ) → 64 ≤ size
     → ltb size (needed skip (answerIn t h payload from position)) ≡ cut skip t h size
 unfolding cut
 needs-cut skip FeeIdsFull h payload from position size whole = le-ltb size 64 whole
@@ -155,7 +155,7 @@ needs-cut skip Passed h payload from position size whole = le-ltb size 64 whole
 needs-cut true HandedOut h payload from position size whole = le-ltb size 64 whole
 needs-cut false HandedOut h payload from position size whole = refl
 
-needs-payload : (skip : Bool) (t : Turn) (h : RdhCru) (payload : List ℕ) (from position : Position) (size : ℕ) → cut skip t h size ≡ true
+needs-payload : (skip : Bool) (t : Outcome) (h : RdhCru) (payload : List ℕ) (from position : Position) (size : ℕ) → cut skip t h size ≡ true
     → 64 + payloadSize h ≡ needed skip (answerIn t h payload from position)
 unfolding cut
 needs-payload skip FeeIdsFull h payload from position size e = absurd (true≢false (sym e))
@@ -167,7 +167,7 @@ needs-payload true HandedOut h payload from position size e = absurd (true≢fal
 needs-payload false HandedOut h payload from position size e = refl
 
 -- more bytes do not cut what fewer did not
-pub cut-more : (skip : Bool) (t : Turn) (h : RdhCru) (size size′ : ℕ) → size ≤ size′ → cut skip t h size ≡ false → cut skip t h size′ ≡ false
+pub cut-more : (skip : Bool) (t : Outcome) (h : RdhCru) (size size′ : ℕ) → size ≤ size′ → cut skip t h size ≡ false → cut skip t h size′ ≡ false
 unfolding cut
 cut-more skip FeeIdsFull h size size′ more e = refl
 cut-more skip BadOffset h size size′ more e = refl
@@ -181,7 +181,7 @@ cut-more false HandedOut h size size′ more e =
 -- ---- an examination
 
 -- What an examination finds: the next entry, or what holds it back, which changes nothing.
-abbrev pub foundBy : Kept → Entry (List ℕ) → Held → Entry (List ℕ)
+abbrev pub foundBy : Kept → Entry (List ℕ) → Hold → Entry (List ℕ)
 foundBy k e free = e
 foundBy k e (held a) = unchanged (k .state) (k .feeIds) a
 
@@ -210,7 +210,7 @@ ended-at k w a b same =
     }
 
 -- a header that is handed out has the payload that the window shows
-pub answer-shown : (recording : List ℕ) (w : Window) (of : WindowOf recording w) (place : ℕ) (starts : w .first ≤ place) (skip : Bool) (t : Turn)
+pub answer-shown : (recording : List ℕ) (w : Window) (of : WindowOf recording w) (place : ℕ) (starts : w .first ≤ place) (skip : Bool) (t : Outcome)
     (h : RdhCru) (from position : Position) → cut skip t h (length (shown place (w .first) (w .bytes))) ≡ false
     → cut skip t h (length (drop place recording)) ≡ false
     → answerIn t h (payloadOf skip t h (shown place (w .first) (w .bytes))) from position
@@ -235,7 +235,7 @@ module _ (recording : List ℕ) (set : Settings) (k : Kept) (w : Window) (of : W
   abbrev seen : Entry (List ℕ)
   seen = entryRead (w .bytes) (examined set (k .state) (k .feeIds) (w .bytes) (w .first) (w .last))
 
-  abbrev says : Held
+  abbrev says : Hold
   says = heldBack set k w (next recording set k)
 
   abbrev size : ℕ
@@ -249,7 +249,7 @@ module _ (recording : List ℕ) (set : Settings) (k : Kept) (w : Window) (of : W
   by-state e =
       ap (λ (x : Entry _). entryRead (w .bytes) x)
       (refused-6 set (k .state) (k .feeIds) (w .bytes) (w .first) (w .last) (ap (λ (b : Bool). b || six) e))
-      ∙ sym (ap (λ (h : Held). foundBy k (next recording set k) h) (on _ _ e) ∙ on _ _ e)
+      ∙ sym (ap (λ (h : Hold). foundBy k (next recording set k) h) (on _ _ e) ∙ on _ _ e)
 
   module _ (usable : unusable (k .state) (k .feeIds) ≡ false) where
     by-window : six ≡ true → seen ≡ foundBy k (next recording set k) says
@@ -258,7 +258,7 @@ module _ (recording : List ℕ) (set : Settings) (k : Kept) (w : Window) (of : W
         ap (λ (x : Entry _). entryRead (w .bytes) x)
         (refused-6 set (k .state) (k .feeIds) (w .bytes) (w .first) (w .last)
         (ap (λ (b : Bool). unusable (k .state) (k .feeIds) || b) e ∙ or-true (unusable (k .state) (k .feeIds))))
-        ∙ sym (ap (λ (h : Held). foundBy k (next recording set k) h) (off _ _ usable ∙ on _ _ e))
+        ∙ sym (ap (λ (h : Hold). foundBy k (next recording set k) h) (off _ _ usable ∙ on _ _ e))
 
     module _ (inside : six ≡ false) (starts : w .first ≤ placeOf k) where
       -- fewer than 64 bytes are shown
@@ -269,7 +269,7 @@ module _ (recording : List ℕ) (set : Settings) (k : Kept) (w : Window) (of : W
           ap (λ (x : Entry _). entryRead (w .bytes) x)
           (examined-short set (k .state) (k .feeIds) (w .bytes) (w .first) (w .last) usable inside short ∙ on _ _ last)
           ∙ ended-at k (w .bytes) (w .first + length (w .bytes)) (length recording) (same-greater recording w of (placeOf k) starts last)
-          ∙ sym (ap (λ (h : Held). foundBy k (next recording set k) h) (off _ _ usable ∙ off _ _ inside ∙ on _ _ last)
+          ∙ sym (ap (λ (h : Hold). foundBy k (next recording set k) h) (off _ _ usable ∙ off _ _ inside ∙ on _ _ last)
           ∙ step-ended set (k .state) (k .feeIds) (drop (placeOf k) recording) (length recording) usable
           (subst (λ (l : List ℕ). length l < 64) all short))
 
@@ -278,7 +278,7 @@ module _ (recording : List ℕ) (set : Settings) (k : Kept) (w : Window) (of : W
       short-more short more =
           ap (λ (x : Entry _). entryRead (w .bytes) x)
           (examined-short set (k .state) (k .feeIds) (w .bytes) (w .first) (w .last) usable inside short ∙ off _ _ more)
-          ∙ sym (ap (λ (h : Held). foundBy k (next recording set k) h)
+          ∙ sym (ap (λ (h : Hold). foundBy k (next recording set k) h)
           (off _ _ usable ∙ off _ _ inside ∙ off _ _ more ∙ on _ _ (lt-ltb size 64 short)))
 
       -- a header is shown
@@ -295,8 +295,8 @@ module _ (recording : List ℕ) (set : Settings) (k : Kept) (w : Window) (of : W
         abbrev header : RdhCru
         header = decoded (drop (placeOf k) recording)
 
-        abbrev outcome : Turn
-        outcome = turn set p (k .feeIds) header
+        abbrev outcome : Outcome
+        outcome = outcomeIn set p (k .feeIds) header
 
         abbrev window-entry : Entry (List ℕ)
         window-entry = entryOf set outcome (k .state) (k .feeIds) header rest (w .first + length (w .bytes))
@@ -310,7 +310,7 @@ module _ (recording : List ℕ) (set : Settings) (k : Kept) (w : Window) (of : W
         window-is : step set (k .state) (k .feeIds) rest (w .first + length (w .bytes)) ≡ window-entry
         window-is =
             step-header set (k .state) (k .feeIds) rest (w .first + length (w .bytes)) usable whole
-            ∙ ap (λ (h : RdhCru). entryOf set (turn set p (k .feeIds) h) (k .state) (k .feeIds) h rest (w .first + length (w .bytes)))
+            ∙ ap (λ (h : RdhCru). entryOf set (outcomeIn set p (k .feeIds) h) (k .state) (k .feeIds) h rest (w .first + length (w .bytes)))
             (same-header recording w of (placeOf k) starts whole)
 
         seen-is : examined set (k .state) (k .feeIds) (w .bytes) (w .first) (w .last)
@@ -345,7 +345,7 @@ module _ (recording : List ℕ) (set : Settings) (k : Kept) (w : Window) (of : W
             ∙ read-back
             ∙ (λ i. entryOf set outcome (k .state) (k .feeIds) header (shown-all recording w of (placeOf k) starts last i)
             (same-end recording w of (placeOf k) starts last whole i))
-            ∙ sym (ap (λ (h : Held). foundBy k (next recording set k) h) (off _ _ usable ∙ off _ _ inside ∙ on _ _ last) ∙ next-is)
+            ∙ sym (ap (λ (h : Hold). foundBy k (next recording set k) h) (off _ _ usable ∙ off _ _ inside ∙ on _ _ last) ∙ next-is)
 
         module _ (more : w .last ≡ false) where
           is-cut : ltb size (needed skip (next recording set k .answer)) ≡ cut skip outcome header size
@@ -362,7 +362,7 @@ module _ (recording : List ℕ) (set : Settings) (k : Kept) (w : Window) (of : W
               ∙ ap (λ (n : ℕ). unchanged (k .state) (k .feeIds) (gives (wants (p .place) n)))
               (needs-payload skip outcome header (payloadOf skip outcome header (drop (placeOf k) recording)) (startOf (p .load) (p .position))
               (p .position) size e ∙ sym need-is)
-              ∙ sym (ap (λ (h : Held). foundBy k (next recording set k) h)
+              ∙ sym (ap (λ (h : Hold). foundBy k (next recording set k) h)
               (off _ _ usable ∙ off _ _ inside ∙ off _ _ more ∙ off _ _ (le-ltb size 64 whole) ∙ on _ _ (is-cut ∙ e)))
 
           long-found : cut skip outcome header size ≡ false → seen ≡ foundBy k (next recording set k) says
@@ -375,7 +375,7 @@ module _ (recording : List ℕ) (set : Settings) (k : Kept) (w : Window) (of : W
               ∙ entry-uncut set outcome (k .state) (k .feeIds) header rest (drop (placeOf k) recording) (w .first + length (w .bytes))
               (length recording) e e′
               (answer-shown recording w of (placeOf k) starts skip outcome header (startOf (p .load) (p .position)) (p .position) e e′)
-              ∙ sym (ap (λ (h : Held). foundBy k (next recording set k) h)
+              ∙ sym (ap (λ (h : Hold). foundBy k (next recording set k) h)
               (off _ _ usable ∙ off _ _ inside ∙ off _ _ more ∙ off _ _ (le-ltb size 64 whole) ∙ off _ _ (is-cut ∙ e))
               ∙ next-is)
 

@@ -13,7 +13,7 @@ use Rattle.rdh.specs.declared.rdh_cru.RdhCru.{RdhCru}
 use Rattle.serde_rdh.specs.Layout.{decoded}
 use Rattle.scan_cdp.specs.Answers.{Found, handed, passed, wants}
 use Rattle.scan_cdp.specs.Loads.{Loaded, eitherInitial, isPassed, loadedFrom, replied, together}
-use Rattle.scan_cdp.specs.Steps.{Entry, answerIn, ended, entryOf, noMarks, payloadOf, startOf, step, turn, unchanged, unusable}
+use Rattle.scan_cdp.specs.Steps.{Entry, answerIn, ended, entryOf, noMarks, payloadOf, startOf, step, outcomeIn, unchanged, unusable}
 use Rattle.scan_cdp.specs.Windows.{examined, outside, shown}
 use Rattle.scan_cdp.specs.declared.Initial.{Initial}
 use Rattle.scan_cdp.specs.declared.Initial.the-variants as Report
@@ -21,13 +21,13 @@ use Rattle.scan_cdp.specs.declared.LoadMarks.{LoadMarks}
 use Rattle.scan_cdp.specs.declared.Part.{Part}
 use Rattle.scan_cdp.specs.declared.Position.{Position}
 use Rattle.scan_cdp.specs.declared.Settings.{Settings}
-use Rattle.scan_cdp.specs.declared.Turn.{Turn}
-use Rattle.scan_cdp.specs.declared.Turn.the-variants.{FeeIdsFull, BadOffset, MemorySize, NegativeSkip, Passed, HandedOut}
+use Rattle.scan_cdp.specs.declared.Outcome.{Outcome}
+use Rattle.scan_cdp.specs.declared.Outcome.the-variants.{FeeIdsFull, BadOffset, MemorySize, NegativeSkip, Passed, HandedOut}
 use Rattle.scan_laws.specs.RunLaws.{fewer}
 use Rattle.scan_laws.specs.Runs.{isRefusal}
 use Rattle.scan_laws.specs.StepLaws.{examined-passed, shownTo}
 use Rattle.scan_laws.specs.WindowLaws.{step-ended, step-header}
-use Rattle.chain.specs.Calls.{Held, Reply, Served, Window, WindowOf, endsChain, entryRead, examination, free, held, heldBack, heldLoad, keptBy, load, loadAlong, loadRead, loadedBy, needed, readFrom}
+use Rattle.chain.specs.Calls.{Hold, Reply, Served, Window, WindowOf, endsChain, entryRead, examination, free, held, heldBack, heldLoad, keptBy, load, loadAlong, loadRead, loadedBy, needed, readFrom}
 use Rattle.chain.specs.Chain.{Kept, chain, isRefused, left, next}
 use Rattle.chain.specs.ChainLaws.{chain-unfolds, placeOf}
 use Rattle.chain.specs.ExaminationLaws.{examination-follows, foundBy}
@@ -35,7 +35,7 @@ use Rattle.chain.specs.ExaminationLaws.{examination-follows, foundBy}
 -- ---- what ends the chain
 
 -- Where a refusal 6 is an entry of the chain, state and list alone meet it, and it leaves them as they were.
-answered-six : (t : Turn) (h : RdhCru) (payload : List ℕ) (from position : Position)
+answered-six : (t : Outcome) (h : RdhCru) (payload : List ℕ) (from position : Position)
     → isRefusal 6 (answerIn t h payload from position) ≡ false
 answered-six FeeIdsFull h payload from position = refl
 answered-six BadOffset h payload from position = refl
@@ -64,7 +64,7 @@ six-by-state recording set k = by-state (unusable (k .state) (k .feeIds)) refl
         let rest = drop (placeOf k) recording in
         let h = decoded rest in
         let p = k .state .progress in
-        let t = turn set p (k .feeIds) h in
+        let t = outcomeIn set p (k .feeIds) h in
         other (ap (λ (e : Entry (List ℕ)). isRefusal 6 (e .answer))
         (step-header set (k .state) (k .feeIds) rest (length recording) usable (ltb-false (length rest) 64 long))
         ∙ answered-six t h (payloadOf (set .«skip_payload») t h rest) (startOf (p .load) (p .position)) (p .position))
@@ -90,7 +90,7 @@ entry-ends recording set k =
 
 -- ---- what holds a call back ends neither the chain nor the load's place in it
 
-abbrev pub HeldFine : Kept → Held → Type 0
+abbrev pub HeldFine : Kept → Hold → Type 0
 HeldFine k free = Unit {0}
 HeldFine k (held a) = (isPassed a ≡ false) × (endsChain (examination (unchanged (k .state) (k .feeIds) a)) ≡ false)
 
@@ -179,13 +179,13 @@ module _ (recording : List ℕ) (set : Settings) (w : Window) (of : WindowOf rec
         ≡ servedLoad recording set (loadOn (suc n) ms k)
     load-held a is =
         let (no-pass, goes-on) = subst (HeldFine k) is (held-fine set k w e) in
-        let found = examination-follows recording set k w of ∙ ap (λ (h : Held). foundBy k e h) is in
+        let found = examination-follows recording set k w of ∙ ap (λ (h : Hold). foundBy k e h) is in
         let replies : loadOn (suc n) ms k ≡ heldLoad ms k a =
         load-on
         ∙ off _ _ (ap (λ (y : Entry (List ℕ)). isPassed (y .answer)) found ∙ no-pass)
         ∙ ap (λ (y : Entry (List ℕ)). replied ms y) found
         ∙ ap (λ (m : LoadMarks). record { answer = a; marks = m; state = k .state; feeIds = k .feeIds }) (together-none ms) in
-        ap (λ (h : Held). loadedBy ms k e (behind k) (loadAlong set w (together ms (e .marks)) (left e) (behind k)) h) is
+        ap (λ (h : Hold). loadedBy ms k e (behind k) (loadAlong set w (together ms (e .marks)) (left e) (behind k)) h) is
         ∙ (λ i. record { reply = load (heldLoad ms k a); rest = (sym (chain-unfolds recording set k) ∙ sym (off [] (chain recording set k) goes-on)) i })
         ∙ ap (servedLoad recording set) (sym replies)
 
@@ -197,11 +197,11 @@ module _ (recording : List ℕ) (set : Settings) (w : Window) (of : WindowOf rec
         → loadedBy ms k e (behind k) (loadAlong set w (together ms (e .marks)) (left e) (behind k)) (heldBack set k w e)
         ≡ servedLoad recording set (loadOn (suc n) ms k)
     load-free is onward =
-        ap (λ (h : Held). loadedBy ms k e (behind k) (loadAlong set w (together ms (e .marks)) (left e) (behind k)) h) is
+        ap (λ (h : Hold). loadedBy ms k e (behind k) (loadAlong set w (together ms (e .marks)) (left e) (behind k)) h) is
         ∙ by-pass (isPassed (e .answer)) refl
       where
         found : entryRead (w .bytes) x ≡ e
-        found = examination-follows recording set k w of ∙ ap (λ (h : Held). foundBy k e h) is
+        found = examination-follows recording set k w of ∙ ap (λ (h : Hold). foundBy k e h) is
 
         by-pass : (b : Bool) → isPassed (e .answer) ≡ b
             → pick (isPassed (e .answer)) (loadAlong set w (together ms (e .marks)) (left e) (behind k))
@@ -233,7 +233,7 @@ module _ (recording : List ℕ) (set : Settings) (w : Window) (of : WindowOf rec
     fewer-left : heldBack set k w e ≡ free → isPassed (e .answer) ≡ true → length (shownTo (k .state) (w .bytes) (w .first)) < 64 * suc n
         → length (shownTo (e .state) (w .bytes) (w .first)) < 64 * n
     fewer-left is passes few =
-        let found = examination-follows recording set k w of ∙ ap (λ (h : Held). foundBy k e h) is in
+        let found = examination-follows recording set k w of ∙ ap (λ (h : Hold). foundBy k e h) is in
         let on-it =
         examined-passed set (k .state) (k .feeIds) (w .bytes) (w .first) (w .last)
         (sym (passed-read (w .bytes) (x .answer)) ∙ ap (λ (y : Entry (List ℕ)). isPassed (y .answer)) found ∙ passes) in
@@ -248,7 +248,7 @@ module _ (recording : List ℕ) (set : Settings) (w : Window) (of : WindowOf rec
     unfolding loadAlong
     load-turn onward = ap (loadAlong set w ms k) (chain-unfolds recording set k) ∙ by-held (heldBack set k w e) refl
       where
-        by-held : (h : Held) → heldBack set k w e ≡ h
+        by-held : (h : Hold) → heldBack set k w e ≡ h
             → loadedBy ms k e (behind k) (loadAlong set w (together ms (e .marks)) (left e) (behind k)) (heldBack set k w e)
             ≡ servedLoad recording set (loadOn (suc n) ms k)
         by-held (held a) is = load-held a is

@@ -15,17 +15,17 @@ use Rattle.rdh.specs.declared.rdh_cru.RdhCru.{RdhCru}
 use Rattle.serde_rdh.specs.Layout.{decoded}
 use Rattle.scan_cdp.specs.Answers.{Found, handed, passed, wants}
 use Rattle.scan_cdp.specs.Loads.{isPassed, noLoadMarks, replied, together}
-use Rattle.scan_cdp.specs.Steps.{Entry, answerIn, ended, entryOf, payloadOf, startOf, step, turn, unchanged, unusable}
-use Rattle.scan_cdp.specs.Turns.{badOffset, feeId, filtered, memorySize, offset, skipped, turnOf}
+use Rattle.scan_cdp.specs.Steps.{Entry, answerIn, ended, entryOf, payloadOf, startOf, step, outcomeIn, unchanged, unusable}
+use Rattle.scan_cdp.specs.Outcomes.{badOffset, feeId, filtered, memorySize, offset, skipped, outcomeOf}
 use Rattle.scan_cdp.specs.Windows.{outside, shown}
 use Rattle.scan_cdp.specs.declared.LoadMarks.{LoadMarks}
 use Rattle.scan_cdp.specs.declared.Position.{Position}
 use Rattle.scan_cdp.specs.declared.Settings.{Settings}
-use Rattle.scan_cdp.specs.declared.Turn.{Turn}
-use Rattle.scan_cdp.specs.declared.Turn.the-variants.{FeeIdsFull, BadOffset, MemorySize, NegativeSkip, Passed, HandedOut}
+use Rattle.scan_cdp.specs.declared.Outcome.{Outcome}
+use Rattle.scan_cdp.specs.declared.Outcome.the-variants.{FeeIdsFull, BadOffset, MemorySize, NegativeSkip, Passed, HandedOut}
 use Rattle.scan_laws.specs.Runs.{isWant}
 use Rattle.scan_laws.specs.WindowLaws.{step-ended, step-header}
-use Rattle.chain.specs.Calls.{Call, Held, Reply, Served, Window, Windows, along, answerOf, endsChain, examination, examinedBy, examines, free, held, heldBack, heldLoad, keptBy, load, loadAlong, loadedBy, loads, needed, replies, servedBy, toCome}
+use Rattle.chain.specs.Calls.{Call, Hold, Reply, Served, Window, Windows, along, replyAnswer, endsChain, examination, examinedBy, examines, free, held, heldBack, heldLoad, keptBy, load, loadAlong, loadedBy, loads, needed, replies, servedBy, toCome}
 use Rattle.chain.specs.Chain.{Kept, chain, chainOf, isRefused, left, next}
 use Rattle.chain.specs.ChainLaws.{placeOf}
 use Rattle.chain.specs.CallsFollow.{calls-follow}
@@ -51,7 +51,7 @@ packetsIn (e ∷ es) = packetIn (e .answer) ++ packetsIn es
 
 unfoldable pub packetsOf : List Reply → List Packet
 packetsOf [] = []
-packetsOf (r ∷ rs) = packetIn (answerOf r) ++ packetsOf rs
+packetsOf (r ∷ rs) = packetIn (replyAnswer r) ++ packetsOf rs
 
 -- The packets that the calls hand out, followed by those still to come, are the chain's: none is left out, given twice or moved (D3.3).
 abbrev pub EachOnce : Type 0
@@ -86,7 +86,7 @@ ExactlyMatching =
 
 -- Whether a call ended before the next entry: with a want, or with a 6 by the window.
 abbrev pub isHeld : Reply → Bool
-isHeld r = isWant (answerOf r) || (isRefused (answerOf r) && not (endsChain r))
+isHeld r = isWant (replyAnswer r) || (isRefused (replyAnswer r) && not (endsChain r))
 
 unfoldable pub noneHeld : List Reply → Bool
 noneHeld [] = true
@@ -102,7 +102,7 @@ ReachesEnd =
 -- ---- each once
 
 -- What holds a call back hands out no packet, and is told from the reply.
-abbrev Quiet : Kept → Held → Type 0
+abbrev Quiet : Kept → Hold → Type 0
 Quiet k free = Unit {0}
 Quiet k (held a) = (packetIn a ≡ []) × (isHeld (examination (unchanged (k .state) (k .feeIds) a)) ≡ true)
 
@@ -126,9 +126,9 @@ passed-none (refuses number values) e = absurd (false≢true e)
 
 -- what a call is served hands out the packets that its entries have
 abbrev packetsAfter : Served → List Packet
-packetsAfter o = packetIn (answerOf (o .reply)) ++ packetsIn (o .rest)
+packetsAfter o = packetIn (replyAnswer (o .reply)) ++ packetsIn (o .rest)
 
-examined-packets : (k : Kept) (e : Entry (List ℕ)) (es : List (Entry (List ℕ))) (h : Held) → Quiet k h
+examined-packets : (k : Kept) (e : Entry (List ℕ)) (es : List (Entry (List ℕ))) (h : Hold) → Quiet k h
     → packetsAfter (examinedBy k e es h) ≡ packetsIn (e ∷ es)
 unfolding packetsIn
 examined-packets k e es free fine = refl
@@ -150,7 +150,7 @@ load-packets set w (e ∷ es) ms k =
     by-pass onward false stops =
         ap packetsAfter (off (loadAlong set w (together ms (e .marks)) (left e) es) (record { reply = load (replied ms e); rest = es }) stops)
 
-    by-held : (h : Held) → Quiet k h → packetsAfter (loadAlong set w (together ms (e .marks)) (left e) es) ≡ packetsIn es
+    by-held : (h : Hold) → Quiet k h → packetsAfter (loadAlong set w (together ms (e .marks)) (left e) es) ≡ packetsIn es
         → packetsAfter (loadedBy ms k e es (loadAlong set w (together ms (e .marks)) (left e) es) h) ≡ packetIn (e .answer) ++ packetsIn es
     by-held free fine onward = by-pass onward (isPassed (e .answer)) refl
     by-held (held a) (none, told) onward = ap (λ (ps : List Packet). ps ++ (packetIn (e .answer) ++ packetsIn es)) none
@@ -168,9 +168,9 @@ along-packets set k [] es = refl
 along-packets set k (c ∷ cs) [] = refl
 along-packets set k (c ∷ cs) (e ∷ es) =
     let o = servedBy set k c e es in
-    append-assoc (packetIn (answerOf (o .reply))) (packetsOf (along set (keptBy (o .reply)) cs (o .rest)))
+    append-assoc (packetIn (replyAnswer (o .reply))) (packetsOf (along set (keptBy (o .reply)) cs (o .rest)))
     (packetsIn (toCome set (keptBy (o .reply)) cs (o .rest)))
-    ∙ ap (λ (ps : List Packet). packetIn (answerOf (o .reply)) ++ ps) (along-packets set (keptBy (o .reply)) cs (o .rest))
+    ∙ ap (λ (ps : List Packet). packetIn (replyAnswer (o .reply)) ++ ps) (along-packets set (keptBy (o .reply)) cs (o .rest))
     ∙ served-packets set k c e es
 
 pub each-once : EachOnce
@@ -182,7 +182,7 @@ each-once recording set start calls windows =
 -- ---- exactly the matching headers
 
 -- what an outcome says of the filter
-abbrev Chosen : Settings → RdhCru → Turn → Type 0
+abbrev Chosen : Settings → RdhCru → Outcome → Type 0
 Chosen set h FeeIdsFull = Unit {0}
 Chosen set h BadOffset = Unit {0}
 Chosen set h MemorySize = Unit {0}
@@ -190,7 +190,7 @@ Chosen set h NegativeSkip = Unit {0}
 Chosen set h Passed = isMatch set h ≡ false
 Chosen set h HandedOut = isMatch set h ≡ true
 
-skipped-chosen : (set : Settings) (h : RdhCru) (t : Turn) → Chosen set h t → Chosen set h (skipped (offset h) t)
+skipped-chosen : (set : Settings) (h : RdhCru) (t : Outcome) → Chosen set h t → Chosen set h (skipped (offset h) t)
 unfolding skipped
 skipped-chosen set h t chosen = by-test (Chosen set h) (ltb (offset h) 64) NegativeSkip t (λ e. tt) (λ e. chosen)
 
@@ -203,8 +203,8 @@ filtered-chosen set h =
     by-test (Chosen set h) (set .«skip_payload») _ _ (λ skip. skipped-chosen set h HandedOut taken) (λ read. taken)))
     (λ other. skipped-chosen set h Passed other)
 
-outcome-chosen : (set : Settings) (first full : Bool) (h : RdhCru) → Chosen set h (turnOf set first full h)
-unfolding turnOf
+outcome-chosen : (set : Settings) (first full : Bool) (h : RdhCru) → Chosen set h (outcomeOf set first full h)
+unfolding outcomeOf
 outcome-chosen set first full h =
     by-test (Chosen set h) first _ _
     (λ one. by-test (Chosen set h) full _ _ (λ e. tt) (λ e.
@@ -212,9 +212,9 @@ outcome-chosen set first full h =
     (λ later. by-test (Chosen set h) (badOffset (offset h)) _ _ (λ bad. tt) (λ fine.
     by-test (Chosen set h) full _ _ (λ e. tt) (λ e. filtered-chosen set h)))
 
-turn-chosen : (set : Settings) (k : Kept) (h : RdhCru) → Chosen set h (turn set (k .state .progress) (k .feeIds) h)
-unfolding turn
-turn-chosen set k h = outcome-chosen set _ _ h
+chosen-here : (set : Settings) (k : Kept) (h : RdhCru) → Chosen set h (outcomeIn set (k .state .progress) (k .feeIds) h)
+unfolding outcomeIn
+chosen-here set k h = outcome-chosen set _ _ h
 
 -- what an answer says of the header at the place
 abbrev Tells : Settings → RdhCru → Answer (Found (List ℕ)) → Type 0
@@ -223,7 +223,7 @@ Tells set h (gives (handed g payload position)) = (g ≡ h) × (isMatch set h �
 Tells set h (gives (wants place size)) = ⊥
 Tells set h (refuses number values) = Unit {0}
 
-answer-tells : (set : Settings) (t : Turn) (h : RdhCru) (payload : List ℕ) (from position : Position) → Chosen set h t
+answer-tells : (set : Settings) (t : Outcome) (h : RdhCru) (payload : List ℕ) (from position : Position) → Chosen set h t
     → Tells set h (answerIn t h payload from position)
 answer-tells set FeeIdsFull h payload from position chosen = tt
 answer-tells set BadOffset h payload from position chosen = tt
@@ -233,13 +233,13 @@ answer-tells set Passed h payload from position chosen = chosen
 answer-tells set HandedOut h payload from position chosen = (refl, chosen)
 
 entry-tells : (set : Settings) (k : Kept) (rest : List ℕ) (end : ℕ)
-    → Tells set (decoded rest) (entryOf set (turn set (k .state .progress) (k .feeIds) (decoded rest)) (k .state) (k .feeIds) (decoded rest) rest end .answer)
+    → Tells set (decoded rest) (entryOf set (outcomeIn set (k .state .progress) (k .feeIds) (decoded rest)) (k .state) (k .feeIds) (decoded rest) rest end .answer)
 unfolding entryOf
 entry-tells set k rest end =
     let p = k .state .progress in
     let h = decoded rest in
-    let t = turn set p (k .feeIds) h in
-    answer-tells set t h (payloadOf (set .«skip_payload») t h rest) (startOf (p .load) (p .position)) (p .position) (turn-chosen set k h)
+    let t = outcomeIn set p (k .feeIds) h in
+    answer-tells set t h (payloadOf (set .«skip_payload») t h rest) (startOf (p .load) (p .position)) (p .position) (chosen-here set k h)
 
 next-tells : (recording : List ℕ) (set : Settings) (k : Kept) → Tells set (headerAt recording k) (next recording set k .answer)
 unfolding step ended
@@ -295,7 +295,7 @@ load-takes set w ms k e es onward = by-held (heldBack set k w e) (quiet set k w 
     by-pass true is = onward is
     by-pass false is = omega arith
 
-    by-held : (h : Held) → Quiet k h
+    by-held : (h : Hold) → Quiet k h
         → isHeld (loadedBy ms k e es (loadAlong set w (together ms (e .marks)) (left e) es) h .reply) ≡ false
         → length (loadedBy ms k e es (loadAlong set w (together ms (e .marks)) (left e) es) h .rest) ≤ length es
     by-held free fine is = by-pass (isPassed (e .answer)) is
@@ -307,7 +307,7 @@ no-longer set w [] ms k is = omega arith
 no-longer set w (e ∷ es) ms k is =
     omega (arith, load-takes set w ms k e es (no-longer set w es (together ms (e .marks)) (left e)) is)
 
-examined-takes : (k : Kept) (e : Entry (List ℕ)) (es : List (Entry (List ℕ))) (h : Held) → Quiet k h
+examined-takes : (k : Kept) (e : Entry (List ℕ)) (es : List (Entry (List ℕ))) (h : Hold) → Quiet k h
     → isHeld (examinedBy k e es h .reply) ≡ false → length (examinedBy k e es h .rest) ≤ length es
 examined-takes k e es free fine is = omega arith
 examined-takes k e es (held a) (none, told) is = absurd (true≢false (sym told ∙ is))

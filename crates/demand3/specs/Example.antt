@@ -11,12 +11,12 @@ use Rattle.basis.specs.Refusals.{Answer, gives, refuses}
 use Rattle.serde_rdh.specs.Layout.{decoded, header, span}
 use Rattle.scan_cdp.specs.Answers.{Found, handed, wants}
 use Rattle.scan_cdp.specs.Loads.{loaded, loadedFrom, together}
-use Rattle.scan_cdp.specs.Steps.{Entry, cut, ended, entryOf, initialOf, marksOf, newState, payloadOf, placeAfter, placesListed, progressAfter, raised, step, tallied, turn, unusable, usedListed}
-use Rattle.scan_cdp.specs.Turns.{filtered, skipped, turnOf}
+use Rattle.scan_cdp.specs.Steps.{Entry, cut, ended, entryOf, initialOf, marksOf, newState, payloadOf, placeAfter, placesListed, progressAfter, raised, step, tallied, outcomeIn, unusable, usedListed}
+use Rattle.scan_cdp.specs.Outcomes.{filtered, skipped, outcomeOf}
 use Rattle.scan_cdp.specs.Windows.{bytesAt, examined, outside, partAt}
 use Rattle.stats.specs.Counts.{added}
-use Rattle.stats.specs.Listed.{full, member, placesAfter, twice, usedAfter}
-use Rattle.chain.specs.Calls.{Call, Reply, Window, WindowOf, Windows, along, answerOf, examines, loads, replies, replyTo}
+use Rattle.stats.specs.Lists.{full, member, placesAfter, twice, usedAfter}
+use Rattle.chain.specs.Calls.{Call, Reply, Window, WindowOf, Windows, along, replyAnswer, examines, loads, replies, replyTo}
 use Rattle.chain.specs.CallsFollow.{calls-follow}
 use Rattle.chain.specs.Chain.{Kept, chain, chainOf}
 use Rattle.chain.specs.Following.{repliesOf}
@@ -45,7 +45,7 @@ calls =
 
 abbrev answers : List Reply → List (Answer (Found (List ℕ)))
 answers [] = []
-answers (r ∷ rs) = answerOf r ∷ answers rs
+answers (r ∷ rs) = replyAnswer r ∷ answers rs
 
 abbrev entryAnswers : List (Entry (List ℕ)) → List (Answer (Found (List ℕ)))
 entryAnswers [] = []
@@ -57,12 +57,12 @@ packet feeId position = gives (handed (decoded (sample feeId 64 0 0x4813)) [] (r
 -- A want, the two packets, and the end.
 pub calls-answer : answers (replies plain start calls)
     ≡ gives (wants (record { 0 = 0 }) 64) ∷ packet 0x502A 0 ∷ packet 0x3006 64 ∷ refuses 1 [] ∷ []
-unfolding recording calls sample bytesOf numberAt little decoded header span repliesOf replyTo examined outside unusable twice member step entryOf marksOf tallied raised added initialOf turn turnOf filtered skipped full payloadOf cut placesListed placesAfter usedListed usedAfter progressAfter placeAfter ended loaded loadedFrom together bytesAt partAt
+unfolding recording calls sample bytesOf numberAt little decoded header span repliesOf replyTo examined outside unusable twice member step entryOf marksOf tallied raised added initialOf outcomeIn outcomeOf filtered skipped full payloadOf cut placesListed placesAfter usedListed usedAfter progressAfter placeAfter ended loaded loadedFrom together bytesAt partAt
 calls-answer = refl
 
 -- The chain itself: the two packets, and the end.
 pub chain-answers : entryAnswers (chain recording plain start) ≡ packet 0x502A 0 ∷ packet 0x3006 64 ∷ refuses 1 [] ∷ []
-unfolding recording sample bytesOf numberAt little decoded header span chain chainOf unusable twice member step entryOf marksOf tallied raised added initialOf turn turnOf filtered skipped full payloadOf cut placesListed placesAfter usedListed usedAfter progressAfter placeAfter ended
+unfolding recording sample bytesOf numberAt little decoded header span chain chainOf unusable twice member step entryOf marksOf tallied raised added initialOf outcomeIn outcomeOf filtered skipped full payloadOf cut placesListed placesAfter usedListed usedAfter progressAfter placeAfter ended
 chain-answers = refl
 
 -- The windows are windows of the recording, so that the theorem speaks of these calls.

@@ -18,9 +18,9 @@ use Rattle.rdh.specs.Subfields.{layerOf, staveOf}
 use Rattle.serde_rdh.specs.Layout.{decoded, header, span}
 use Rattle.sanity.specs.Tests.{allTests, anyFails, cruTests, feeIdTests, rdh0Tests, rdh1Tests, rdh2Tests, rdh3Tests, sound}
 use Rattle.scan_cdp.specs.Answers.{Found, handed}
-use Rattle.scan_cdp.specs.Steps.{cut, entryOf, newState, payloadOf, step, stepIn, turn, unusable}
-use Rattle.scan_cdp.specs.Turns.{filtered, skipped, turnOf}
-use Rattle.stats.specs.Listed.{full, member, twice}
+use Rattle.scan_cdp.specs.Steps.{cut, entryOf, newState, payloadOf, step, stepIn, outcomeIn, unusable}
+use Rattle.scan_cdp.specs.Outcomes.{filtered, skipped, outcomeOf}
+use Rattle.stats.specs.Lists.{full, member, twice}
 use Rattle.scan_cdp.specs.declared.Settings.{Settings}
 use Rattle.text.specs.Ascii.{ascii}
 use Rattle.validators.specs.Verdict.{soundTo}
@@ -97,7 +97,7 @@ AllAgree (c ∷ cs) = Agrees c × AllAgree cs
 
 -- One theorem: the definitions agree with the list.
 pub marked-agree : AllAgree marked
-unfolding marked sample bytesOf numberAt little decoded header span step unusable entryOf turn turnOf filtered skipped full member twice payloadOf cut soundTo sound allTests feeIdTests rdh0Tests rdh1Tests rdh2Tests rdh3Tests cruTests anyFails
+unfolding marked sample bytesOf numberAt little decoded header span step unusable entryOf outcomeIn outcomeOf filtered skipped full member twice payloadOf cut soundTo sound allTests feeIdTests rdh0Tests rdh1Tests rdh2Tests rdh3Tests cruTests anyFails
 marked-agree = (
   refl,
   (

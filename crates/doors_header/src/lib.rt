@@ -1,6 +1,6 @@
 // What C and Python call about headers, over structs by value that C has too.
 ghost use mathlib.Core.Path.{_≡_};
-ghost use Rattle.row.specs.Row.{rowText};
+ghost use Rattle.rdh_row.specs.Row.{rowText};
 ghost use Rattle.serde_rdh.specs.Layout.{decode, encode, encodedInto, Equal};
 ghost use Rattle.text.specs.Written.{overwritten, written};
 ghost use Rattle.doors_header_structs.specs.Plain.{headerOf, plainWritten, refusalOf};
@@ -65,5 +65,5 @@ pub extern "C" fn kesarimbu_row(header: PlainHeader, out: &mut [u8]) -> PlainTex
     ensures answer { λ r. ⌜ r ≡ plainWritten (written (rowText (headerOf header)) (now (out .entry))) ⌝ }
     ensures left { λ _. ⌜ now (out .exit) ≡ overwritten (rowText (headerOf header)) (now (out .entry)) ⌝ }
 {
-    plain_text(row::row(header_of(header), out))
+    plain_text(rdh_row::row(header_of(header), out))
 }

@@ -4,7 +4,7 @@ use mathlib.Core.Bool.{Bool}
 use mathlib.Core.List.{List}
 use mathlib.Core.Path.{_≡_}
 use Rattle.listing_batch.specs.JoinLaws.{listed-known}
-use Rattle.listing_batch.specs.Outcomes.{Outcome, listedInto}
+use Rattle.listing_batch.specs.Listings.{Listing, listedInto}
 use Rattle.doors_scan_structs.specs.Plain.{settingsOf, stateOf}
 use Rattle.doors_scan_structs.specs.PlainLaws.{state-again}
 use Rattle.doors_scan_structs.specs.Replies.{kindWant}
@@ -17,7 +17,7 @@ use Rattle.doors_list.specs.Doors.{Left, leftBy, listedThrough}
 use Rattle.doors_list.specs.ReplyLaws.{known-kind}
 
 -- A call with what came back goes on from the state and the validator that the call before left.
-pub goes-on : (o : Outcome) (settings : PlainSettings) (w : List ℕ) (first : ℕ) (last : Bool) (out : List ℕ)
+pub goes-on : (o : Listing) (settings : PlainSettings) (w : List ℕ) (first : ℕ) (last : Bool) (out : List ℕ)
     → listedThrough settings (leftBy o .reply .state) (leftBy o .reply .validator) (leftBy o .links) (leftBy o .feeIds) w first last out
     ≡ leftBy (listedInto out (settingsOf settings) (o .validator) (o .state) (o .feeIds) w first last)
 unfolding listedThrough

@@ -2,7 +2,7 @@
 use Prim.Native.Nat.{ℕ}
 use mathlib.Core.Bool.{Bool}
 use mathlib.Core.List.{List}
-use Rattle.listing_batch.specs.Outcomes.{Outcome, listedInto}
+use Rattle.listing_batch.specs.Listings.{Listing, listedInto}
 use Rattle.doors_scan_structs.specs.Plain.{settingsOf, stateOf}
 use Rattle.doors_scan_structs.specs.declared.plain.PlainSettings.{PlainSettings}
 use Rattle.doors_scan_structs.specs.declared.plain.PlainState.{PlainState}
@@ -22,7 +22,7 @@ abbrev pub left : PlainListed → (links feeIds out : List ℕ) → Left
 left reply links feeIds out = record { reply = reply; links = links; feeIds = feeIds; out = out }
 
 -- What a call with this outcome leaves.
-abbrev pub leftBy : Outcome → Left
+abbrev pub leftBy : Listing → Left
 leftBy o = left (listedWith (o .stop) (o .state .progress) (o .validator) (o .bytes) (o .unsound)) (o .state .links) (o .feeIds) (o .out)
 
 -- What a listing leaves.

@@ -10,7 +10,7 @@ use Rattle.basis.specs.Refusals.{gives, refuses}
 use Rattle.scan_cdp.specs.Answers.{handed, loadAnswer, passed, wants}
 use Rattle.scan_cdp.specs.declared.LoadCdp.the-variants as Loads
 use Rattle.scan_cdp.specs.declared.Refusal.the-variants.{End, FeeIdsFull, MemorySize, NegativeSkip, OffsetToNext, Unusable}
-use Rattle.lines.specs.Lines.{room}
+use Rattle.listing_lines.specs.Lines.{room}
 use Rattle.listing_batch.specs.Batches.{Stopped, answered, full, isPacket, stopOf, tooShort}
 use Rattle.listing_batch.specs.JoinLaws.{Known}
 use Rattle.listing_batch.specs.declared.Stop.{Stop}

@@ -6,7 +6,7 @@ use mathlib.Core.Path.{_≡_, sym, subst}
 use native.Mathlib.Omega.{arith}
 use lib.ListN.{length}
 use Rattle.basis.specs.Refusals.{Answer, gives, refuses}
-use Rattle.scan_cdp.specs.Answers.{Found, answerOf, handed, passed, wants}
+use Rattle.scan_cdp.specs.Answers.{Found, examinedAnswer, handed, passed, wants}
 use Rattle.scan_cdp.specs.Loads.{Loaded, isPassed, loaded, noLoadMarks, replied}
 use Rattle.scan_cdp.specs.Steps.{Entry}
 use Rattle.scan_cdp.specs.declared.Examined.{Examined}
@@ -42,11 +42,11 @@ readExamination l =
 
 -- An answer of the code, with a header of the code if it has one, and a lent array for the header's bytes.
 module _ (a : Examined) (writable : Writable a) (header : List ℕ) (long : 64 ≤ length header) where
-  read-back : (answer : Answer (Found Part)) → answer ≡ answerOf a → readAnswer (plainAnswer answer) (headerLeft answer header) ≡ answer
+  read-back : (answer : Answer (Found Part)) → answer ≡ examinedAnswer a → readAnswer (plainAnswer answer) (headerLeft answer header) ≡ answer
   read-back answer is =
       subst (λ (x : Answer (Found Part)). readAnswer (plainAnswer x) (headerLeft x header) ≡ x) (sym is) (answer-again a header writable long)
 
-  pub load-again : (l : Loaded Part) → l .answer ≡ answerOf a → readLoad (leftBy l header) ≡ l
+  pub load-again : (l : Loaded Part) → l .answer ≡ examinedAnswer a → readLoad (leftBy l header) ≡ l
   load-again l is =
       λ i. record {
         answer = read-back (l .answer) is i;
@@ -55,7 +55,7 @@ module _ (a : Examined) (writable : Writable a) (header : List ℕ) (long : 64 �
         feeIds = l .feeIds;
       }
 
-  pub examination-again : (e : Entry Part) → e .answer ≡ answerOf a → readExamination (leftBy (replied noLoadMarks e) header) ≡ e
+  pub examination-again : (e : Entry Part) → e .answer ≡ examinedAnswer a → readExamination (leftBy (replied noLoadMarks e) header) ≡ e
   examination-again e is =
       λ i. record {
         answer = read-back (e .answer) is i;

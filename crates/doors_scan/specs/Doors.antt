@@ -3,7 +3,7 @@ use Prim.Native.Nat.{ℕ}
 use mathlib.Core.Bool.{Bool}
 use mathlib.Core.List.{List}
 use mathlib.Core.Path.{_≡_}
-use Rattle.scan_cdp.specs.Answers.{answerOf}
+use Rattle.scan_cdp.specs.Answers.{examinedAnswer}
 use Rattle.scan_cdp.specs.Loads.{Loaded, loaded, noLoadMarks, replied}
 use Rattle.scan_cdp.specs.Windows.{examined}
 use Rattle.scan_cdp.specs.declared.Examined.{Examined}
@@ -47,4 +47,4 @@ loadedThrough settings state links feeIds w first last header =
 abbrev pub HandedBack : Examined → LoadMarks → State → (before : List ℕ) → PlainReply → (links header : List ℕ) → Type 0
 HandedBack answer marks state before r links header =
     (feeIds : List ℕ)
-    → left r links feeIds header ≡ leftBy (record { answer = answerOf answer; marks = marks; state = state; feeIds = feeIds }) before
+    → left r links feeIds header ≡ leftBy (record { answer = examinedAnswer answer; marks = marks; state = state; feeIds = feeIds }) before

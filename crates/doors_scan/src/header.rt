@@ -1,13 +1,13 @@
 // The bytes of a packet's header, for whoever called from C.
 ghost use mathlib.Core.Path.{_≡_};
-ghost use Rattle.scan_cdp.specs.Answers.{answerOf, loadAnswer};
+ghost use Rattle.scan_cdp.specs.Answers.{examinedAnswer, loadAnswer};
 ghost use Rattle.doors_scan_structs.specs.Replies.{headerLeft};
 use scan_cdp::Examined;
 use scan_cdp::LoadCdp;
 
 // The header of a packet; with any other answer the bytes stay.
 pub(crate) fn put_header(answer: Examined, header: &mut [u8; 64])
-    ensures { λ _. ⌜ now (header .exit) ≡ headerLeft (answerOf answer) (now (header .entry)) ⌝ }
+    ensures { λ _. ⌜ now (header .exit) ≡ headerLeft (examinedAnswer answer) (now (header .entry)) ⌝ }
 {
     match answer {
         Examined::Passed => {}

@@ -12,7 +12,7 @@ use Rattle.basis.specs.Refusals.{Answer, gives, refuses}
 use Rattle.rdh.specs.declared.rdh_cru.RdhCru.{RdhCru}
 use Rattle.serde_rdh.specs.Layout.{InRange, decoded, encoded, encodedInto}
 use Rattle.serde_rdh.specs.LayoutLaws.{decoded-encoded}
-use Rattle.scan_cdp.specs.Answers.{Found, answerOf, handed, passed, refusal, wants}
+use Rattle.scan_cdp.specs.Answers.{Found, examinedAnswer, handed, passed, refusal, wants}
 use Rattle.scan_cdp.specs.Loads.{noLoadMarks, together}
 use Rattle.scan_cdp.specs.declared.Examined.{Examined}
 use Rattle.scan_cdp.specs.declared.Examined.the-variants.{Answered, Passed}
@@ -75,7 +75,7 @@ refusal-again Unusable header = refl
 
 -- Whatever a call answers can be read back.
 pub answer-again : (a : Examined) (bytes : List ℕ) → Writable a → 64 ≤ length bytes
-    → readAnswer (plainAnswer (answerOf a)) (headerLeft (answerOf a) bytes) ≡ answerOf a
+    → readAnswer (plainAnswer (examinedAnswer a)) (headerLeft (examinedAnswer a) bytes) ≡ examinedAnswer a
 answer-again Passed bytes fits long = refl
 answer-again (Answered (Loads.Packet packet)) bytes fits long =
     ap (λ (h : RdhCru). gives (handed h (packet .payload) (packet .position))) (header-again (packet .rdh) bytes fits long)

@@ -1,6 +1,6 @@
 // The reply of a call as structs that C has too.
 ghost use mathlib.Core.Path.{_≡_};
-ghost use Rattle.scan_cdp.specs.Answers.{answerOf, loadAnswer};
+ghost use Rattle.scan_cdp.specs.Answers.{examinedAnswer, loadAnswer};
 ghost use Rattle.scan_cdp.specs.Loads.{noLoadMarks, together};
 ghost use Rattle.doors_scan_structs.specs.Replies.{carries, plainAnswer, plainMarks, refusalAnswer, refusedWith, replyOf};
 use crate::plain::PlainState;
@@ -57,7 +57,7 @@ pub struct PlainReply {
 }
 
 pub fn reply_of(answer: Examined, marks: LoadMarks, progress: Progress) -> PlainReply
-    ensures { λ r. ⌜ r ≡ replyOf (answerOf answer) marks progress ⌝ }
+    ensures { λ r. ⌜ r ≡ replyOf (examinedAnswer answer) marks progress ⌝ }
 {
     PlainReply {
         answer: examined_answer(answer),
@@ -67,7 +67,7 @@ pub fn reply_of(answer: Examined, marks: LoadMarks, progress: Progress) -> Plain
 }
 
 fn examined_answer(answer: Examined) -> PlainAnswer
-    ensures { λ r. ⌜ r ≡ plainAnswer (answerOf answer) ⌝ }
+    ensures { λ r. ⌜ r ≡ plainAnswer (examinedAnswer answer) ⌝ }
 {
     match answer {
         Examined::Passed => PlainAnswer {

@@ -1,7 +1,7 @@
 // What C and Python call about FEE ids and stave names, over structs by value that C has too.
 ghost use mathlib.Core.Path.{_≡_};
 ghost use Rattle.its.specs.FeeIds.{feeIdOf, sameStave};
-ghost use Rattle.its_names.specs.StaveNames.{answerOf};
+ghost use Rattle.its_names.specs.StaveNames.{nameAnswer};
 ghost use Rattle.doors_staves.specs.Replies.{NamedThrough, feeParts, plainNamed};
 use its_names::StaveFeeId;
 
@@ -62,7 +62,7 @@ pub extern "C" fn kesarimbu_name(name: &[u8]) -> PlainNamed
 }
 
 fn plain_named(named: StaveFeeId) -> PlainNamed
-    ensures { λ r. ⌜ r ≡ plainNamed (answerOf named) ⌝ }
+    ensures { λ r. ⌜ r ≡ plainNamed (nameAnswer named) ⌝ }
 {
     match named {
         StaveFeeId::FeeId(fee_id) => PlainNamed {

@@ -1,7 +1,7 @@
 // What C and Python call for a verdict, on a validator that the caller keeps.
 ghost use mathlib.Core.Path.{_≡_};
 ghost use Rattle.text.specs.Written.{overwritten};
-ghost use Rattle.validators.specs.Verdict.{answerOf, textOf};
+ghost use Rattle.validators.specs.Verdict.{verdictAnswer, textOf};
 ghost use Rattle.doors_header_structs.specs.Plain.{headerOf};
 ghost use Rattle.doors_verdict.specs.Plain.{validatorOf};
 ghost use Rattle.doors_verdict.specs.Replies.{checked, plainChecked};
@@ -41,7 +41,7 @@ pub extern "C" fn kesarimbu_check(
 }
 
 fn plain_checked(check: SanityCheck) -> PlainChecked
-    ensures { λ r. ⌜ r ≡ plainChecked (answerOf (check .verdict)) (check .validator) ⌝ }
+    ensures { λ r. ⌜ r ≡ plainChecked (verdictAnswer (check .verdict)) (check .validator) ⌝ }
 {
     let validator = plain_validator(check.validator);
     let verdict = check.verdict;

@@ -124,7 +124,7 @@ fn together(marks: LoadMarks, next: Marks) -> LoadMarks
     let next_initial = next.initial;
     LoadMarks {
         initial: either_initial(initial, next_initial),
-        seen_carries: raised(marks.seen_carries, next.seen_carry),
+        seen_carries: with_carry(marks.seen_carries, next.seen_carry),
         filtered_carry: marks.filtered_carry | next.filtered_carry,
         payload_carry: marks.payload_carry | next.payload_carry,
         payload_cut: marks.payload_cut | next.payload_cut,
@@ -145,7 +145,7 @@ fn either_initial(initial: Initial, next: Initial) -> Initial
     }
 }
 
-fn raised(count: u64, carry: bool) -> u64
+fn with_carry(count: u64, carry: bool) -> u64
     requires { ⌜ count ≤ limit ⌝ }
     ensures { λ r. ⌜ r ≡ pick carry (count + 1) count ⌝ }
 {

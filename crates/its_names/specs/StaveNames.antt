@@ -61,6 +61,6 @@ pub data Answered (name : List ℕ) (answer : Answer ℕ) : Type 0 where
   not-named : ((layer stave : ℕ) → Named name layer stave → ⊥) → answer ≡ refuses 8 [] → Answered name answer
 
 -- The answer that each case of the code's enum is.
-abbrev pub answerOf : StaveFeeId → Answer ℕ
-answerOf (FeeId id) = gives id
-answerOf NotAStaveName = refuses 8 []
+abbrev pub nameAnswer : StaveFeeId → Answer ℕ
+nameAnswer (FeeId id) = gives id
+nameAnswer NotAStaveName = refuses 8 []

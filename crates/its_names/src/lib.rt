@@ -2,7 +2,7 @@
 ghost use mathlib.Core.Path.{_≡_};
 ghost use Prim.Native.Nat.{_+_, _-_, _*_, _≤_, _<_, min};
 ghost use lib.ListN.{length};
-ghost use Rattle.its_names.specs.StaveNames.{digit0, Digit, Answered, answerOf};
+ghost use Rattle.its_names.specs.StaveNames.{digit0, Digit, Answered, nameAnswer};
 ghost use Rattle.its_names.specs.Parsing.{nameParsed, startParsed, bothNumbers, FirstUnderscore, numberParsed, digitsParsed};
 
 // A number of a stave name is at most 255: any larger value is kept as 256.
@@ -28,7 +28,7 @@ enum ParsedU8 {
 
 // The FEE id of the stave that is named, as `L5_42`, at uplink 0. A second `_` is refused, which the Rust overlooks.
 pub fn layer_stave_string_to_feeid(name: &[u8]) -> StaveFeeId
-    ensures { λ r. ⌜ Answered (now (name .entry)) (answerOf r) ⌝ }
+    ensures { λ r. ⌜ Answered (now (name .entry)) (nameAnswer r) ⌝ }
 {
     match parse_stave_name(name) {
         ParsedName::Stave(layer, stave) => {

@@ -8,9 +8,9 @@ use Rattle.text.specs.PutLaws.{same-length}
 use Rattle.validators.specs.declared.RdhCruSanityValidator.{RdhCruSanityValidator}
 use Rattle.scan_cdp.specs.declared.Part.{Part}
 use Rattle.scan_cdp.specs.Loads.{Loaded}
-use Rattle.window.specs.declared.Held.{Held}
-use Rattle.lines.specs.Lines.{room}
-use Rattle.listing_load.specs.Listed.{Lists}
+use Rattle.listing_window.specs.declared.Held.{Held}
+use Rattle.listing_lines.specs.Lines.{room}
+use Rattle.listing_load.specs.LoadLines.{Lists}
 use Rattle.listing_load.specs.declared.Listed.{Listed}
 use Rattle.listing.specs.Turns.{HeldIn, RoomIn}
 use Rattle.listing.specs.declared.Next.{Next}

@@ -2,7 +2,7 @@
 use Prim.Native.Nat.{ℕ, _+_, _≤_}
 use mathlib.Core.List.{List}
 use lib.ListN.{length}
-use Rattle.lines.specs.Lines.{room}
+use Rattle.listing_lines.specs.Lines.{room}
 use Rattle.listing.specs.declared.Next.{Next}
 use Rattle.listing.specs.declared.Next.the-variants.{Window, End}
 use Rattle.listing.specs.declared.Room.{Room}

@@ -2,13 +2,13 @@
 // that ended it. What stands in the lines is said by the crate `listing_load`; here is the reading and the writing.
 ghost use Prim.Native.Nat.{_≤_};
 ghost use lib.ListN.{length};
-ghost use Rattle.lines.specs.Lines.{room};
+ghost use Rattle.listing_lines.specs.Lines.{room};
 ghost use Rattle.listing.specs.Turns.{HeldIn, RoomIn};
+use listing_window::Held;
+use listing_window::Refilled;
 use scan_cdp::BytePlace;
 use scan_cdp::LoadCdp;
 use scan_cdp::State;
-use window::Held;
-use window::Refilled;
 
 // What comes after a load: the next one on this window, or nothing more.
 enum Next {
@@ -37,7 +37,7 @@ fn list(buffer: &mut [u8], fee_ids: &mut [u16], out: &mut [u8])
     let set = listing_start::list_settings();
     let mut state = State::new();
     let mut validator = listing_start::new_validator();
-    let mut held = window::empty();
+    let mut held = listing_window::empty();
     let mut used = 0;
     let mut turns = u64::MAX;
     while turns > 0 {
@@ -87,7 +87,7 @@ fn next_window(buffer: &mut [u8], held: Held, answer: LoadCdp) -> Next
 fn read_on(buffer: &mut [u8], held: Held, place: BytePlace, size: u64) -> Next
     ensures { λ r. ⌜ HeldIn (now (buffer .exit)) r ⌝ }
 {
-    match window::refill(libc::STDIN_FILENO, buffer, held, place, size) {
+    match listing_window::refill(libc::STDIN_FILENO, buffer, held, place, size) {
         Refilled::Window(next) => Next::Window(next),
         Refilled::Failed => {
             os::fail(b"standard input");
@@ -101,7 +101,7 @@ fn with_room(out: &[u8], used: usize) -> Room
     requires { ⌜ (used ≤ length (now out)) × (room ≤ length (now out)) ⌝ }
     ensures { λ r. ⌜ RoomIn (now (out .entry)) r ⌝ }
 {
-    if lines::ROOM <= out.len() - used {
+    if listing_lines::ROOM <= out.len() - used {
         return Room::At(used);
     }
     if flush(out, used) {

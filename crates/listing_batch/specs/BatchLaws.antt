@@ -23,11 +23,11 @@ use Rattle.scan_cdp.specs.declared.Refusal.the-variants.{End, FeeIdsFull, Memor
 use Rattle.scan_cdp.specs.declared.Settings.{Settings}
 use Rattle.scan_cdp.specs.declared.State.{State}
 use Rattle.input_scanner.specs.Replies.{loadOf}
-use Rattle.lines.specs.Lines.{lineAt, room}
-use Rattle.packet_lines.specs.Packets.{packetLines}
-use Rattle.listing_load.specs.Listed.{Lists, linesOf, unsoundIn, validatorOf}
+use Rattle.listing_lines.specs.Lines.{lineAt, room}
+use Rattle.listing_packet.specs.Packets.{packetLines}
+use Rattle.listing_load.specs.LoadLines.{Lists, linesOf, unsoundIn, validatorOf}
 use Rattle.listing_load.specs.declared.Listed.{Listed}
-use Rattle.listing_batch.specs.Batches.{Batched, Batches, answered, batched, batchedFrom, counted, isPacket, stopOf, stopped}
+use Rattle.listing_batch.specs.Batches.{Batched, Batches, answered, batched, batchedFrom, unsoundWith, isPacket, stopOf, stopped}
 use Rattle.listing_batch.specs.declared.Batch.{Batch}
 use Rattle.listing_batch.specs.declared.Stop.{Stop}
 use Rattle.listing_batch.specs.declared.Stop.the-variants as Why
@@ -164,9 +164,9 @@ module _ {set : Settings} {v₀ : RdhCruSanityValidator} {s₀ : State} {feeIds�
         ∙ ap (λ (x : Loaded Part).
         pick (isPacket (x .answer))
         (batchedFrom (here .turns) set (validatorOf v (x .answer)) (x .state) (x .feeIds) (here .text ++ linesOf v (x .answer) x)
-        (counted bad (unsoundIn v (x .answer))) w first last (length out₀))
+        (unsoundWith bad (unsoundIn v (x .answer))) w first last (length out₀))
         (stopped (answered (x .answer)) (validatorOf v (x .answer)) (x .state) (x .feeIds) (here .text ++ linesOf v (x .answer) x)
-        (counted bad (unsoundIn v (x .answer)))))
+        (unsoundWith bad (unsoundIn v (x .answer)))))
         (sym (lists .load))
         ∙ (λ i.
         pick (isPacket (got .answer))

@@ -14,8 +14,8 @@ use Rattle.scan_cdp.specs.Loads.{Loaded, loaded}
 use Rattle.scan_cdp.specs.declared.Part.{Part}
 use Rattle.scan_cdp.specs.declared.Settings.{Settings}
 use Rattle.scan_cdp.specs.declared.State.{State}
-use Rattle.lines.specs.Lines.{room}
-use Rattle.listing_load.specs.Listed.{linesOf, unsoundIn, validatorOf}
+use Rattle.listing_lines.specs.Lines.{room}
+use Rattle.listing_load.specs.LoadLines.{linesOf, unsoundIn, validatorOf}
 use Rattle.listing_batch.specs.declared.Batch.{Batch}
 use Rattle.listing_batch.specs.declared.Stop.{Stop}
 use Rattle.listing_batch.specs.declared.Stop.the-variants as Why
@@ -48,8 +48,8 @@ stopped why v s feeIds text unsound =
     record { stop = why; state = s; feeIds = feeIds; validator = v; text = text; unsound = unsound }
 
 -- How many packets are not sound, with one answer more.
-abbrev pub counted : ℕ → Bool → ℕ
-counted n unsound = n + pick unsound 1 0
+abbrev pub unsoundWith : ℕ → Bool → ℕ
+unsoundWith n unsound = n + pick unsound 1 0
 
 -- The loads from a state on, after some that had the lines `text` and so many packets that are not sound; at most n of them. There is a further
 -- one while a buffer of `size` bytes has room for the lines of any load behind that text.
@@ -60,7 +60,7 @@ batchedFrom (suc n) set v s feeIds text unsound w first last size =
     let l = loaded set s feeIds w first last in
     let after = validatorOf v (l .answer) in
     let more = text ++ linesOf v (l .answer) l in
-    let bad = counted unsound (unsoundIn v (l .answer)) in
+    let bad = unsoundWith unsound (unsoundIn v (l .answer)) in
     pick (ltb size (length text + room)) (stopped full v s feeIds text unsound)
     (pick (isPacket (l .answer))
     (batchedFrom n set after (l .state) (l .feeIds) more bad w first last size)

@@ -15,11 +15,11 @@ use Rattle.scan_cdp.specs.declared.Part.{Part}
 use Rattle.scan_cdp.specs.declared.Settings.{Settings}
 use Rattle.scan_cdp.specs.declared.State.{State}
 use Rattle.scan_laws.specs.RunLaws.{loaded-answers}
-use Rattle.lines.specs.Lines.{room}
-use Rattle.listing_load.specs.Listed.{linesOf, unsoundIn, validatorOf}
-use Rattle.listing_batch.specs.Batches.{Batched, Stopped, answered, batched, batchedFrom, counted, full, isPacket, stopped, tooShort}
+use Rattle.listing_lines.specs.Lines.{room}
+use Rattle.listing_load.specs.LoadLines.{linesOf, unsoundIn, validatorOf}
+use Rattle.listing_batch.specs.Batches.{Batched, Stopped, answered, batched, batchedFrom, unsoundWith, full, isPacket, stopped, tooShort}
 use Rattle.listing_batch.specs.BatchLaws.{packet-there}
-use Rattle.listing_batch.specs.Outcomes.{Outcome, listedInto}
+use Rattle.listing_batch.specs.Listings.{Listing, listedInto}
 
 abbrev pub isFull : Stopped → Bool
 isFull full = true
@@ -81,7 +81,7 @@ module _ (set : Settings) (w : List ℕ) (first : ℕ) (last : Bool) where
       → Known (listedInto out set v s feeIds w first last .stop)
   unfolding listedInto batched
   listed-known out v s feeIds =
-      by-test (λ (o : Outcome). Known (o .stop)) (ltb (length out) room) _ _
+      by-test (λ (o : Listing). Known (o .stop)) (ltb (length out) room) _ _
       (λ short. tt)
       (λ roomy. known-from (suc (length out)) (length out) v s feeIds [] 0)
 
@@ -94,7 +94,7 @@ module _ (set : Settings) (w : List ℕ) (first : ℕ) (last : Bool) where
       let l = loaded set s feeIds w first last in
       let after = validatorOf v (l .answer) in
       let more = text ++ linesOf v (l .answer) l in
-      let worse = counted bad (unsoundIn v (l .answer)) in
+      let worse = unsoundWith bad (unsoundIn v (l .answer)) in
       pick (isPacket (l .answer)) (allFrom n after (l .state) (l .feeIds) more worse)
       (stopped (answered (l .answer)) after (l .state) (l .feeIds) more worse)
 
@@ -126,7 +126,7 @@ module _ (set : Settings) (w : List ℕ) (first : ℕ) (last : Bool) where
     more = text ++ linesOf v (l .answer) l
 
     abbrev worse : ℕ
-    worse = counted bad (unsoundIn v (l .answer))
+    worse = unsoundWith bad (unsoundIn v (l .answer))
 
     one-load : (b : Batched) → isPacket (l .answer) ≡ true → Made after (l .state) (l .feeIds) more worse b → Made v s feeIds text bad b
     unfolding allFrom
@@ -177,10 +177,10 @@ module _ (set : Settings) (w : List ℕ) (first : ℕ) (last : Bool) where
       let lines = linesOf v (l .answer) l in
       let bad = unsoundIn v (l .answer) in
       let joined : (t ++ u) ++ lines ≡ t ++ (u ++ lines) = append-assoc t u lines in
-      let summed : counted (k + j) bad ≡ k + counted j bad = omega arith in
+      let summed : unsoundWith (k + j) bad ≡ k + unsoundWith j bad = omega arith in
       behind-pick (isPacket (l .answer)) t k _ _ _ _
       ((λ i. allFrom n after (l .state) (l .feeIds) (joined i) (summed i))
-      ∙ all-behind n after (l .state) (l .feeIds) t (u ++ lines) k (counted j bad))
+      ∙ all-behind n after (l .state) (l .feeIds) t (u ++ lines) k (unsoundWith j bad))
       (λ i. stopped (answered (l .answer)) after (l .state) (l .feeIds) (joined i) (summed i))
 
   -- Calls join: where one stops for room, what the loads give from its state on, behind its text and its count, is what they give from its

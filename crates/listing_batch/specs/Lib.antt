@@ -1,5 +1,5 @@
 pub mod Batches
-pub mod Outcomes
+pub mod Listings
 pub mod BatchLaws
-pub mod OutcomeLaws
+pub mod ListingLaws
 pub mod JoinLaws

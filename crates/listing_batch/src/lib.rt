@@ -3,14 +3,14 @@ ghost use mathlib.Core.Path.{_≡_};
 ghost use lib.ListN.{length};
 ghost use Rattle.scan_cdp.specs.Answers.{loadAnswer};
 ghost use Rattle.listing_batch.specs.Batches.{Batches, batched, isPacket};
-ghost use Rattle.listing_batch.specs.Outcomes.{listedInto, outcome};
+ghost use Rattle.listing_batch.specs.Listings.{listedInto, listingOf};
 use scan_cdp::BytePlace;
 use scan_cdp::LoadCdp;
 use scan_cdp::Settings;
 use scan_cdp::State;
 use validators::RdhCruSanityValidator;
 
-// Why no further load was made: its lines might not have had the room; the buffer is shorter than lines::ROOM, so that none was made at all;
+// Why no further load was made: its lines might not have had the room; the buffer is shorter than listing_lines::ROOM, so that none was made at all;
 // or the last load answered this, which is no packet.
 pub enum Stop {
     Full,
@@ -40,15 +40,15 @@ pub fn list_loads(
     last: bool,
     out: &mut [u8],
 ) -> Batch
-    ensures { λ r. ⌜ outcome r (now («fee_ids» .exit)) (now (out .exit))
+    ensures { λ r. ⌜ listingOf r (now («fee_ids» .exit)) (now (out .exit))
         ≡ listedInto (now (out .entry)) set validator state (now («fee_ids» .entry)) (now (window .entry)) (first .0) last ⌝ }
 {
-    if out.len() < lines::ROOM {
+    if out.len() < listing_lines::ROOM {
         return Batch {
             stop: Stop::TooShort,
             state,
             validator,
-            length: lines::ROOM,
+            length: listing_lines::ROOM,
             unsound: 0,
         };
     }
@@ -74,7 +74,7 @@ fn put_loads(
     let mut validator = validator;
     let mut at = 0;
     let mut unsound = 0;
-    while lines::ROOM <= out.len() - at {
+    while listing_lines::ROOM <= out.len() - at {
         let listed = listing_load::list_cdp(
             set,
             state,

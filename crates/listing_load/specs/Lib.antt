@@ -1,2 +1,2 @@
-pub mod Listed
-pub mod ListedLaws
+pub mod LoadLines
+pub mod LoadLinesLaws

@@ -1,6 +1,6 @@
 // One load with what the listing says of it.
 ghost use Rattle.scan_cdp.specs.Loads.{loaded};
-ghost use Rattle.listing_load.specs.Listed.{Lists};
+ghost use Rattle.listing_load.specs.LoadLines.{Lists};
 use input_scanner::Load;
 use scan_cdp::BytePlace;
 use scan_cdp::LoadCdp;
@@ -36,7 +36,7 @@ pub fn list_cdp(
     let answer = load.answer;
     match answer {
         LoadCdp::Packet(packet) => {
-            let lines = packet_lines::put_packet(out, at, validator, packet.position, packet.rdh);
+            let lines = listing_packet::put_packet(out, at, validator, packet.position, packet.rdh);
             let validator = lines.validator;
             Listed {
                 load,
@@ -53,7 +53,7 @@ pub fn list_cdp(
         },
         LoadCdp::Refused(why) => {
             let counts = load.state.progress.counts;
-            let at = lines::put_last(out, at, counts, why);
+            let at = listing_lines::put_last(out, at, counts, why);
             Listed {
                 load,
                 validator,

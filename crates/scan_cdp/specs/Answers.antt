@@ -37,6 +37,6 @@ loadAnswer (Loads.Want place size) = gives (wants place size)
 loadAnswer (Loads.Refused r) = refusal r
 
 -- What an examination answers.
-abbrev pub answerOf : Examined → Answer (Found Part)
-answerOf Passed = gives passed
-answerOf (Answered a) = loadAnswer a
+abbrev pub examinedAnswer : Examined → Answer (Found Part)
+examinedAnswer Passed = gives passed
+examinedAnswer (Answered a) = loadAnswer a

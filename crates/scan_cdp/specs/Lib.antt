@@ -1,5 +1,5 @@
 pub mod Answers
-pub mod Turns
+pub mod Outcomes
 pub mod Steps
 pub mod Windows
 pub mod Loads

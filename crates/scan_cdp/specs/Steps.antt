@@ -13,10 +13,10 @@ use Rattle.rdh.specs.Subfields.{dataFormatOf}
 use Rattle.rdh.specs.declared.rdh_cru.RdhCru.{RdhCru}
 use Rattle.serde_rdh.specs.Layout.{decoded}
 use Rattle.stats.specs.Counts.{added, fullCount}
-use Rattle.stats.specs.Listed.{full, placesAfter, twice, usedAfter}
+use Rattle.stats.specs.Lists.{full, placesAfter, twice, usedAfter}
 use Rattle.stats.specs.declared.Count.{Count}
 use Rattle.scan_cdp.specs.Answers.{Found, handed, passed}
-use Rattle.scan_cdp.specs.Turns.{counted, feeId, handsOut, matched, memorySize, offset, payloadSize, turnOf}
+use Rattle.scan_cdp.specs.Outcomes.{isCounted, feeId, handsOut, matched, memorySize, offset, payloadSize, outcomeOf}
 use Rattle.scan_cdp.specs.declared.BytePlace.{BytePlace}
 use Rattle.scan_cdp.specs.declared.Position.{Position}
 use Rattle.scan_cdp.specs.declared.Settings.{Settings}
@@ -29,8 +29,8 @@ use Rattle.scan_cdp.specs.declared.Initial.{Initial}
 use Rattle.scan_cdp.specs.declared.Initial.the-variants as Report
 use Rattle.scan_cdp.specs.declared.Marks.{Marks}
 use Rattle.scan_cdp.specs.declared.Tally.{Tally}
-use Rattle.scan_cdp.specs.declared.Turn.{Turn}
-use Rattle.scan_cdp.specs.declared.Turn.the-variants.{FeeIdsFull, BadOffset, MemorySize, NegativeSkip, Passed, HandedOut}
+use Rattle.scan_cdp.specs.declared.Outcome.{Outcome}
+use Rattle.scan_cdp.specs.declared.Outcome.the-variants.{FeeIdsFull, BadOffset, MemorySize, NegativeSkip, Passed, HandedOut}
 
 -- An entry: what is answered, its marks, and what state and list hold after it (C2).
 pub record Entry (P : Type 0) : Type 0 where
@@ -104,8 +104,8 @@ isFirst Load.None = true
 isFirst (Load.From start) = false
 
 -- What becomes of the header (S2 to S5). With statistics off there is no refusal 4 (S8).
-unfoldable pub turn : Settings → Progress → List ℕ → RdhCru → Turn
-turn set p feeIds h = turnOf set (isFirst (p .load)) (set .stats && full (feeId h) (p .«fee_ids_used») feeIds) h
+unfoldable pub outcomeIn : Settings → Progress → List ℕ → RdhCru → Outcome
+outcomeIn set p feeIds h = outcomeOf set (isFirst (p .load)) (set .stats && full (feeId h) (p .«fee_ids_used») feeIds) h
 
 -- The initial mark, with its three values: a first header at position 0, statistics on (S2, W8).
 unfoldable pub initialOf : Bool → Bool → Position → RdhCru → Initial
@@ -119,10 +119,10 @@ unfoldable pub raised : Bool → ℕ → ℕ → Count
 raised due count n = pick due (added count n) (record { value = count; carry = false })
 
 -- The counts, and their carries: seen in step 2, filtered and payload in step 4; none with statistics off (K1, S8).
-unfoldable pub tallied : Settings → Bool → Turn → Counts → RdhCru → Tally
+unfoldable pub tallied : Settings → Bool → Outcome → Counts → RdhCru → Tally
 tallied set first t counts h =
     record {
-      seen = raised (set .stats && counted first t) (counts .seen) 1;
+      seen = raised (set .stats && isCounted first t) (counts .seen) 1;
       filtered = raised (set .stats && enabled (set .filter) && matched t) (counts .filtered) 1;
       payload = raised (set .stats && handsOut t) (counts .payload) (payloadSize h);
     }
@@ -130,12 +130,12 @@ tallied set first t counts h =
 -- ---- steps 3 to 5
 
 -- Whether the recording's end cuts a payload that is to be read (S6): fewer than 64 plus its size are left from the byte place on.
-unfoldable pub cut : Bool → Turn → RdhCru → ℕ → Bool
+unfoldable pub cut : Bool → Outcome → RdhCru → ℕ → Bool
 cut skip t h left = handsOut t && not skip && ltb left (64 + payloadSize h)
 
 -- The byte place afterwards: behind the 64 bytes with refusals 2 to 5 (R); by the offset where the header is passed (S3) or its payload
 -- skipped, and by the memory size where it is read (S5); at the end where it is cut (S6).
-unfoldable pub placeAfter : Bool → Turn → RdhCru → (place left end : ℕ) → ℕ
+unfoldable pub placeAfter : Bool → Outcome → RdhCru → (place left end : ℕ) → ℕ
 placeAfter skip FeeIdsFull h place left end = place + 64
 placeAfter skip BadOffset h place left end = place + 64
 placeAfter skip MemorySize h place left end = place + 64
@@ -144,7 +144,7 @@ placeAfter skip Passed h place left end = place + offset h
 placeAfter skip HandedOut h place left end = pick skip (place + offset h) (pick (cut skip HandedOut h left) end (place + memorySize h))
 
 -- The position grows by the offset of a header that is passed or handed out (S3, S5).
-abbrev pub positionAfter : Turn → RdhCru → ℕ → ℕ
+abbrev pub positionAfter : Outcome → RdhCru → ℕ → ℕ
 positionAfter FeeIdsFull h position = position
 positionAfter BadOffset h position = position
 positionAfter MemorySize h position = position
@@ -158,7 +158,7 @@ startOf Load.None position = position
 startOf (Load.From start) position = start
 
 -- Only a passed header leaves a load open, with its start (S7).
-abbrev pub loadAfter : Turn → OpenLoad → Position → OpenLoad
+abbrev pub loadAfter : Outcome → OpenLoad → Position → OpenLoad
 loadAfter FeeIdsFull load position = Load.None
 loadAfter BadOffset load position = Load.None
 loadAfter MemorySize load position = Load.None
@@ -167,7 +167,7 @@ loadAfter Passed load position = Load.From (startOf load position)
 loadAfter HandedOut load position = Load.None
 
 -- What is answered: refusal 2 with the signed distance and the position at this header (R2), a packet with its load's start (S5).
-abbrev pub answerIn : {P : Type 0} → Turn → RdhCru → P → (start position : Position) → Answer (Found P)
+abbrev pub answerIn : {P : Type 0} → Outcome → RdhCru → P → (start position : Position) → Answer (Found P)
 answerIn FeeIdsFull h payload start position = refuses 4 []
 answerIn BadOffset h payload start position = refuses 2 (subℕ (offset h) 64 ∷ pos (position .0) ∷ [])
 answerIn MemorySize h payload start position = refuses 3 []
@@ -176,13 +176,13 @@ answerIn Passed h payload start position = gives passed
 answerIn HandedOut h payload start position = gives (handed h payload start)
 
 -- The payload's bytes behind the header; none where it is skipped or cut (S6).
-unfoldable pub payloadOf : Bool → Turn → RdhCru → List ℕ → List ℕ
+unfoldable pub payloadOf : Bool → Outcome → RdhCru → List ℕ → List ℕ
 payloadOf skip t h rest = pick (skip || cut skip t h (length rest)) [] (take (payloadSize h) (drop 64 rest))
 
 -- ---- the step
 
 -- The marks of a header (W8): the initial one, the carries of the counts, and E100, with statistics off too (S8).
-unfoldable pub marksOf : Settings → Turn → Progress → RdhCru → ℕ → Marks
+unfoldable pub marksOf : Settings → Outcome → Progress → RdhCru → ℕ → Marks
 marksOf set t p h left =
     let tally = tallied set (isFirst (p .load)) t (p .counts) h in
     record {
@@ -194,8 +194,8 @@ marksOf set t p h left =
     }
 
 -- Whether step 2 lists the link and the FEE id.
-abbrev pub lists : Settings → Turn → Progress → Bool
-lists set t p = set .stats && counted (isFirst (p .load)) t
+abbrev pub lists : Settings → Outcome → Progress → Bool
+lists set t p = set .stats && isCounted (isFirst (p .load)) t
 
 -- A list's places and its used number, after a number that step 2 lists.
 unfoldable pub placesListed : Bool → ℕ → ℕ → List ℕ → List ℕ
@@ -205,7 +205,7 @@ unfoldable pub usedListed : Bool → ℕ → ℕ → List ℕ → ℕ
 usedListed due x used l = pick due (usedAfter x used l) used
 
 -- How far the scan has come, with the used numbers of links and FEE ids.
-unfoldable pub progressAfter : Settings → Turn → Progress → RdhCru → (left end linksUsed feeIdsUsed : ℕ) → Progress
+unfoldable pub progressAfter : Settings → Outcome → Progress → RdhCru → (left end linksUsed feeIdsUsed : ℕ) → Progress
 progressAfter set t p h left end linksUsed feeIdsUsed =
     let tally = tallied set (isFirst (p .load)) t (p .counts) h in
     record {
@@ -218,7 +218,7 @@ progressAfter set t p h left end linksUsed feeIdsUsed =
     }
 
 -- The entry of a header that has an outcome.
-unfoldable pub entryOf : Settings → Turn → State → List ℕ → RdhCru → List ℕ → ℕ → Entry (List ℕ)
+unfoldable pub entryOf : Settings → Outcome → State → List ℕ → RdhCru → List ℕ → ℕ → Entry (List ℕ)
 entryOf set t s feeIds h rest end =
     let p = s .progress in
     record {
@@ -239,7 +239,7 @@ unfoldable pub step : Settings → State → List ℕ → (rest : List ℕ) → 
 step set s feeIds rest end =
     pick (unusable s feeIds) (unchanged s feeIds (refuses 6 []))
     (pick (ltb (length rest) 64) (ended s feeIds end)
-    (entryOf set (turn set (s .progress) feeIds (decoded rest)) s feeIds (decoded rest) rest end))
+    (entryOf set (outcomeIn set (s .progress) feeIds (decoded rest)) s feeIds (decoded rest) rest end))
 
 -- The step at a state's byte place in a whole recording.
 abbrev pub stepIn : List ℕ → Settings → State → List ℕ → Entry (List ℕ)

@@ -9,7 +9,7 @@ use Rattle.basis.specs.Refusals.{Answer, gives, refuses}
 use Rattle.serde_rdh.specs.Layout.{decoded}
 use Rattle.scan_cdp.specs.Answers.{Found, handed, passed, wants}
 use Rattle.scan_cdp.specs.Steps.{Entry, limit, step, unchanged, unusable}
-use Rattle.scan_cdp.specs.Turns.{payloadSize}
+use Rattle.scan_cdp.specs.Outcomes.{payloadSize}
 use Rattle.scan_cdp.specs.declared.BytePlace.{BytePlace}
 use Rattle.scan_cdp.specs.declared.Part.{Part}
 use Rattle.scan_cdp.specs.declared.Settings.{Settings}

@@ -131,7 +131,7 @@ pub enum Examined {
 }
 
 // A header is refused with 4, 2, 3 or 5, is passed, or is handed out.
-pub enum Turn {
+pub enum Outcome {
     FeeIdsFull,
     BadOffset,
     MemorySize,

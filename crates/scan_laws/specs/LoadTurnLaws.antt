@@ -8,7 +8,7 @@ use native.Mathlib.Numerals.{add-one}
 use lib.ListN.{length, take}
 use Rattle.basis.specs.Pick.{on, off, pick}
 use Rattle.basis.specs.Refusals.{refuses}
-use Rattle.stats.specs.Listed.{twice}
+use Rattle.stats.specs.Lists.{twice}
 use Rattle.scan_cdp.specs.Loads.{isPassed, loaded, loadedFrom, noLoadMarks, replied, together}
 use Rattle.scan_laws.specs.RunLaws.{enough, fewer}
 use Rattle.scan_laws.specs.StepLaws.{PassedOn, examined-lengths, examined-passed, shownTo}
@@ -25,13 +25,13 @@ use Rattle.scan_cdp.specs.declared.Part.{Part}
 use Rattle.scan_cdp.specs.declared.Settings.{Settings}
 use Rattle.scan_cdp.specs.declared.State.{State}
 
-raised : (due : Bool) (n : ℕ) → pick due (n + 1) n ≤ n + 1
-raised true n = omega arith
-raised false n = omega arith
+one-more : (due : Bool) (n : ℕ) → pick due (n + 1) n ≤ n + 1
+one-more true n = omega arith
+one-more false n = omega arith
 
 carried : (ms : LoadMarks) (m : Marks) → together ms m .«seen_carries» ≤ ms .«seen_carries» + 1
 unfolding together
-carried ms m = raised (m .«seen_carry») (ms .«seen_carries»)
+carried ms m = one-more (m .«seen_carry») (ms .«seen_carries»)
 
 module _ (set : Settings) (ms₀ : LoadMarks) (s₀ : State) (feeIds₀ w : List ℕ) (first : ℕ) (last : Bool) where
   -- A turn of the loop: the whole load is the load from here on, with enough examinations to come.

@@ -13,21 +13,21 @@ use Rattle.filter.specs.Filter.{matches, targetOf}
 use Rattle.rdh.specs.declared.rdh_cru.RdhCru.{RdhCru}
 use Rattle.serde_rdh.specs.Layout.{decoded}
 use Rattle.stats.specs.Counts.{fullCount}
-use Rattle.stats.specs.Listed.{twice}
-use Rattle.stats.specs.ListedLaws.{length-places, once-kept, used-kept}
+use Rattle.stats.specs.Lists.{twice}
+use Rattle.stats.specs.ListsLaws.{length-places, once-kept, used-kept}
 use Rattle.scan_cdp.specs.Answers.{Found, wants}
 use Rattle.scan_cdp.specs.Loads.{isPassed}
 use Rattle.scan_laws.specs.Runs.{closes, isRefusal, isWant}
 use Rattle.scan_cdp.specs.Steps.{Entry, answerIn, cut, ended, entryOf, limit, noMarks, placeAfter, placesListed, progressAfter}
-use Rattle.scan_cdp.specs.Steps.{step, turn, unchanged, unusable, usedListed}
-use Rattle.scan_cdp.specs.Turns.{badOffset, feeId, filtered, memorySize, offset, payloadSize, skipped, turnOf}
+use Rattle.scan_cdp.specs.Steps.{step, outcomeIn, unchanged, unusable, usedListed}
+use Rattle.scan_cdp.specs.Outcomes.{badOffset, feeId, filtered, memorySize, offset, payloadSize, skipped, outcomeOf}
 use Rattle.scan_cdp.specs.Windows.{examined, located, outside, placed, shown}
 use Rattle.scan_cdp.specs.declared.Part.{Part}
 use Rattle.scan_cdp.specs.declared.Position.{Position}
 use Rattle.scan_cdp.specs.declared.Settings.{Settings}
 use Rattle.scan_cdp.specs.declared.State.{State}
-use Rattle.scan_cdp.specs.declared.Turn.{Turn}
-use Rattle.scan_cdp.specs.declared.Turn.the-variants.{FeeIdsFull, BadOffset, MemorySize, NegativeSkip, Passed, HandedOut}
+use Rattle.scan_cdp.specs.declared.Outcome.{Outcome}
+use Rattle.scan_cdp.specs.declared.Outcome.the-variants.{FeeIdsFull, BadOffset, MemorySize, NegativeSkip, Passed, HandedOut}
 
 -- ---- the outcome
 
@@ -42,7 +42,7 @@ good-offset h e =
     record { least = ltb-false (offset h) 64 least; most = ltb-false 10064 (offset h) most }
 
 -- What is known of a header by its outcome.
-abbrev pub Known : RdhCru → Turn → Type 0
+abbrev pub Known : RdhCru → Outcome → Type 0
 Known h FeeIdsFull = Unit {0}
 Known h BadOffset = Unit {0}
 Known h MemorySize = GoodOffset h
@@ -50,7 +50,7 @@ Known h NegativeSkip = ⊥
 Known h Passed = GoodOffset h
 Known h HandedOut = GoodOffset h × 64 ≤ memorySize h
 
-skipped-known : (h : RdhCru) (t : Turn) → GoodOffset h → Known h t → Known h (skipped (offset h) t)
+skipped-known : (h : RdhCru) (t : Outcome) → GoodOffset h → Known h t → Known h (skipped (offset h) t)
 unfolding skipped
 skipped-known h t good k =
     by-test (Known h) (ltb (offset h) 64) NegativeSkip t (λ e. omega (arith, ltb-true (offset h) 64 e, good .least)) (λ e. k)
@@ -65,8 +65,8 @@ filtered-known set h good =
     by-test (Known h) (set .«skip_payload») _ _ (λ skip. skipped-known h HandedOut good both) (λ read. both)))
     (λ other. skipped-known h Passed good good)
 
-pub outcome-known : (set : Settings) (first full : Bool) (h : RdhCru) → Known h (turnOf set first full h)
-unfolding turnOf
+pub outcome-known : (set : Settings) (first full : Bool) (h : RdhCru) → Known h (outcomeOf set first full h)
+unfolding outcomeOf
 outcome-known set first full h =
     let good : badOffset (offset h) ≡ false → Known h (filtered set h) = λ e. filtered-known set h (good-offset h e) in
     by-test (Known h) first _ _
@@ -74,13 +74,13 @@ outcome-known set first full h =
     (λ later. by-test (Known h) (badOffset (offset h)) _ _ (λ bad. tt) (λ fine. by-test (Known h) full _ _ (λ e. tt) (λ e. good fine)))
 
 -- Refusal 5 is never due: what is skipped has an offset that refusal 2 let through.
-pub never-negative : (set : Settings) (first full : Bool) (h : RdhCru) → turnOf set first full h ≡ NegativeSkip → ⊥
+pub never-negative : (set : Settings) (first full : Bool) (h : RdhCru) → outcomeOf set first full h ≡ NegativeSkip → ⊥
 never-negative set first full h e = subst (Known h) e (outcome-known set first full h)
 
-pub passed-offset : (set : Settings) (first full : Bool) (h : RdhCru) → turnOf set first full h ≡ Passed → GoodOffset h
+pub passed-offset : (set : Settings) (first full : Bool) (h : RdhCru) → outcomeOf set first full h ≡ Passed → GoodOffset h
 passed-offset set first full h e = subst (Known h) e (outcome-known set first full h)
 
-pub handed-out-sizes : (set : Settings) (first full : Bool) (h : RdhCru) → turnOf set first full h ≡ HandedOut
+pub handed-out-sizes : (set : Settings) (first full : Bool) (h : RdhCru) → outcomeOf set first full h ≡ HandedOut
     → GoodOffset h × 64 ≤ memorySize h
 handed-out-sizes set first full h e = subst (Known h) e (outcome-known set first full h)
 
@@ -131,7 +131,7 @@ shownTo s w first = shown (s .progress .place .0) first w
 
 -- The entry of the header at the start of some bytes.
 abbrev pub entryAt : Settings → State → List ℕ → (rest : List ℕ) → (end : ℕ) → Entry (List ℕ)
-entryAt set s feeIds rest end = entryOf set (turn set (s .progress) feeIds (decoded rest)) s feeIds (decoded rest) rest end
+entryAt set s feeIds rest end = entryOf set (outcomeIn set (s .progress) feeIds (decoded rest)) s feeIds (decoded rest) rest end
 
 step-ends : (set : Settings) (s : State) (feeIds rest : List ℕ) (end : ℕ) → unusable s feeIds ≡ false → ltb (length rest) 64 ≡ true
     → step set s feeIds rest end ≡ ended s feeIds end
@@ -287,12 +287,12 @@ is-shown s feeIds w first a h =
     let begins = ltb-false place first starts in
     record { starts = begins; ends = omega (arith, begins, h, length-drop (place - first) w) }
 
-pub turn-known : (set : Settings) (s : State) (feeIds : List ℕ) (h : RdhCru) → Known h (turn set (s .progress) feeIds h)
-unfolding turn
-turn-known set s feeIds h = outcome-known set _ _ h
+pub known-here : (set : Settings) (s : State) (feeIds : List ℕ) (h : RdhCru) → Known h (outcomeIn set (s .progress) feeIds h)
+unfolding outcomeIn
+known-here set s feeIds h = outcome-known set _ _ h
 
 -- an answer that a header was passed has that outcome
-only-passed : (t : Turn) (h : RdhCru) (payload : List ℕ) (from position : Position) (start : ℕ)
+only-passed : (t : Outcome) (h : RdhCru) (payload : List ℕ) (from position : Position) (start : ℕ)
     → isPassed (placed start (answerIn t h payload from position)) ≡ true → t ≡ Passed
 only-passed FeeIdsFull h payload from position start e = absurd (false≢true e)
 only-passed BadOffset h payload from position start e = absurd (false≢true e)
@@ -301,10 +301,10 @@ only-passed NegativeSkip h payload from position start e = absurd (false≢true 
 only-passed Passed h payload from position start e = refl
 only-passed HandedOut h payload from position start e = absurd (false≢true e)
 
-place-passed : (skip : Bool) (t : Turn) (h : RdhCru) (place left end : ℕ) → t ≡ Passed
+place-passed : (skip : Bool) (t : Outcome) (h : RdhCru) (place left end : ℕ) → t ≡ Passed
     → placeAfter skip t h place left end ≡ place + offset h
 unfolding placeAfter
-place-passed skip t h place left end e = ap (λ (u : Turn). placeAfter skip u h place left end) e
+place-passed skip t h place left end e = ap (λ (u : Outcome). placeAfter skip u h place left end) e
 
 -- What an examination that passed a header found, and what it left.
 pub record PassedOn (s : State) (feeIds w : List ℕ) (first : ℕ) (e : Entry Part) : Type 0 where
@@ -328,9 +328,9 @@ entry-passed set s feeIds w first start a long e =
     let p = s .progress in
     let rest = shownTo s w first in
     let h = decoded rest in
-    let t = turn set p feeIds h in
+    let t = outcomeIn set p feeIds h in
     let is : t ≡ Passed = only-passed t h _ _ _ start e in
-    let good : GoodOffset h = subst (Known h) is (turn-known set s feeIds h) in
+    let good : GoodOffset h = subst (Known h) is (known-here set s feeIds h) in
     let place = place-passed (set .«skip_payload») t h (p .place .0) (length rest) (first + length w) is in
     let shows = is-shown s feeIds w first a long in
     let order = entry-in-order set s feeIds rest (first + length w) start (usable s feeIds (a .state)) in
@@ -358,7 +358,7 @@ examined-passed set s feeIds w first last =
     (λ a long more cuts e. absurd (false≢true e))
     (λ a long whole e. entry-passed set s feeIds w first (s .progress .place .0 + 64 - first) a long e)
 
-pub place-moves : (skip : Bool) (t : Turn) (h : RdhCru) (place left end : ℕ) → Known h t → place + 64 ≤ end
+pub place-moves : (skip : Bool) (t : Outcome) (h : RdhCru) (place left end : ℕ) → Known h t → place + 64 ≤ end
     → place + 64 ≤ placeAfter skip t h place left end
 unfolding placeAfter
 place-moves skip FeeIdsFull h place left end k ends = omega arith
@@ -387,7 +387,7 @@ entry-moves set s feeIds w first start a long =
     let rest = shownTo s w first in
     let h = decoded rest in
     let shows = is-shown s feeIds w first a long in
-    let moved = place-moves (set .«skip_payload») _ h place (length rest) (first + length w) (turn-known set s feeIds h) (shows .ends) in
+    let moved = place-moves (set .«skip_payload») _ h place (length rest) (first + length w) (known-here set s feeIds h) (shows .ends) in
     record { starts = shows .starts; ends = shows .ends; least = moved }
 
 -- All but a want and the end (1 or 6) move on.
@@ -419,7 +419,7 @@ record OfHeader (answer : Answer (Found Part)) : Type 0 where
   no-end : isRefusal 1 answer ≡ false
   no-skip : isRefusal 5 answer ≡ false
 
-of-header : (t : Turn) (h : RdhCru) (payload : List ℕ) (from position : Position) (start : ℕ) → Known h t
+of-header : (t : Outcome) (h : RdhCru) (payload : List ℕ) (from position : Position) (start : ℕ) → Known h t
     → OfHeader (placed start (answerIn t h payload from position))
 of-header FeeIdsFull h payload from position start k = record { no-want = refl; no-end = refl; no-skip = refl }
 of-header BadOffset h payload from position start k = record { no-want = refl; no-end = refl; no-skip = refl }
@@ -433,7 +433,7 @@ entry-answers : (set : Settings) (s : State) (feeIds rest : List ℕ) (end start
 unfolding entryOf
 entry-answers set s feeIds rest end start =
     let h = decoded rest in
-    of-header (turn set (s .progress) feeIds h) h _ _ _ start (turn-known set s feeIds h)
+    of-header (outcomeIn set (s .progress) feeIds h) h _ _ _ start (known-here set s feeIds h)
 
 pub examined-wants : (set : Settings) (s : State) (feeIds w : List ℕ) (first : ℕ) (last : Bool)
     → isWant (examined set s feeIds w first last .answer) ≡ true → Wanted s feeIds last (examined set s feeIds w first last)

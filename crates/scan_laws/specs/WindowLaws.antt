@@ -14,15 +14,15 @@ use Rattle.rdh.specs.declared.rdh_cru.RdhCru.{RdhCru}
 use Rattle.serde_rdh.specs.Layout.{decoded}
 use Rattle.scan_cdp.specs.Answers.{wants}
 use Rattle.scan_cdp.specs.Moves.{readSize}
-use Rattle.scan_cdp.specs.Steps.{Entry, answerIn, cut, ended, entryOf, marksOf, payloadOf, step, turn, unchanged, unusable}
-use Rattle.scan_cdp.specs.Turns.{payloadSize}
+use Rattle.scan_cdp.specs.Steps.{Entry, answerIn, cut, ended, entryOf, marksOf, payloadOf, step, outcomeIn, unchanged, unusable}
+use Rattle.scan_cdp.specs.Outcomes.{payloadSize}
 use Rattle.scan_cdp.specs.Windows.{bytesAt, examined, located, outside, partAt, placed, shown}
 use Rattle.scan_cdp.specs.declared.Part.{Part}
 use Rattle.scan_cdp.specs.declared.Position.{Position}
 use Rattle.scan_cdp.specs.declared.Settings.{Settings}
 use Rattle.scan_cdp.specs.declared.State.{State}
-use Rattle.scan_cdp.specs.declared.Turn.{Turn}
-use Rattle.scan_cdp.specs.declared.Turn.the-variants.{FeeIdsFull, BadOffset, MemorySize, NegativeSkip, Passed, HandedOut}
+use Rattle.scan_cdp.specs.declared.Outcome.{Outcome}
+use Rattle.scan_cdp.specs.declared.Outcome.the-variants.{FeeIdsFull, BadOffset, MemorySize, NegativeSkip, Passed, HandedOut}
 
 -- ---- the payload
 
@@ -41,7 +41,7 @@ payload-length true h rest = refl
 payload-length false h rest = read-whole h rest (ltb (length rest) (64 + payloadSize h)) refl
 
 -- The answer with the payload as the part of the window that it is.
-pub placed-answer : (start : ℕ) (skip : Bool) (t : Turn) (h : RdhCru) (rest : List ℕ) (from position : Position)
+pub placed-answer : (start : ℕ) (skip : Bool) (t : Outcome) (h : RdhCru) (rest : List ℕ) (from position : Position)
     → placed start (answerIn t h (payloadOf skip t h rest) from position)
     ≡ answerIn t h (partAt start (readSize skip (cut skip t h (length rest)) h)) from position
 placed-answer start skip FeeIdsFull h rest from position = refl
@@ -60,7 +60,7 @@ unfolding step
 step-ended set s feeIds rest end usable short = off _ _ usable ∙ on _ _ (lt-ltb (length rest) 64 short)
 
 pub step-header : (set : Settings) (s : State) (feeIds rest : List ℕ) (end : ℕ) → unusable s feeIds ≡ false → 64 ≤ length rest
-    → step set s feeIds rest end ≡ entryOf set (turn set (s .progress) feeIds (decoded rest)) s feeIds (decoded rest) rest end
+    → step set s feeIds rest end ≡ entryOf set (outcomeIn set (s .progress) feeIds (decoded rest)) s feeIds (decoded rest) rest end
 unfolding step
 step-header set s feeIds rest end usable whole = off _ _ usable ∙ off _ _ (le-ltb (length rest) 64 whole)
 

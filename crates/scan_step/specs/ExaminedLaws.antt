@@ -10,10 +10,10 @@ use lib.ListN.{length, take, length-drop}
 use Rattle.basis.specs.Pick.{by-test, neither, pick}
 use Rattle.basis.specs.Refusals.{gives}
 use Rattle.serde_rdh.specs.Layout.{decoded}
-use Rattle.stats.specs.Listed.{twice}
+use Rattle.stats.specs.Lists.{twice}
 use Rattle.scan_cdp.specs.Answers.{wants}
-use Rattle.scan_cdp.specs.Steps.{Entry, answerIn, cut, entryOf, lists, marksOf, placesListed, progressAfter, startOf, turn, unchanged, unusable, usedListed}
-use Rattle.scan_cdp.specs.Turns.{feeId, payloadSize}
+use Rattle.scan_cdp.specs.Steps.{Entry, answerIn, cut, entryOf, lists, marksOf, placesListed, progressAfter, startOf, outcomeIn, unchanged, unusable, usedListed}
+use Rattle.scan_cdp.specs.Outcomes.{feeId, payloadSize}
 use Rattle.scan_cdp.specs.Moves.{readSize}
 use Rattle.scan_cdp.specs.Windows.{examined, located, outside, partAt, shown}
 use Rattle.scan_laws.specs.WindowLaws.{examined-header, examined-short, placed-answer, refused-6, step-header}
@@ -33,12 +33,12 @@ stepped-on-window : (set : Settings) (s : State) (feeIds rest : List ℕ) (start
     → start + 64 ≡ begin → s .progress .place .0 + length rest ≡ end
     → headerStepped set s feeIds (decoded rest) start (length rest) last
     ≡ replied last s feeIds (64 + payloadSize (decoded rest)) begin
-    (entryOf set (turn set (s .progress) feeIds (decoded rest)) s feeIds (decoded rest) rest end)
+    (entryOf set (outcomeIn set (s .progress) feeIds (decoded rest)) s feeIds (decoded rest) rest end)
 unfolding headerStepped entryOf marksOf
 stepped-on-window set s feeIds rest start begin end last begins ends =
     let p = s .progress in
     let h = decoded rest in
-    let t = turn set p feeIds h in
+    let t = outcomeIn set p feeIds h in
     let skip = set .«skip_payload» in
     λ i.
     pick (not last && cut skip t h (length rest)) (unchanged s feeIds (gives (wants (p .place) (64 + payloadSize h))))

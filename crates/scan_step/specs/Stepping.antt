@@ -9,16 +9,16 @@ use Rattle.basis.specs.Pick.{pick}
 use Rattle.basis.specs.Refusals.{gives, refuses}
 use Rattle.rdh.specs.declared.rdh_cru.RdhCru.{RdhCru}
 use Rattle.serde_rdh.specs.Layout.{decoded}
-use Rattle.scan_cdp.specs.Answers.{answerOf, wants}
+use Rattle.scan_cdp.specs.Answers.{examinedAnswer, wants}
 use Rattle.scan_cdp.specs.Moves.{readSize}
-use Rattle.scan_cdp.specs.Steps.{Entry, answerIn, cut, ended, limit, lists, marksOf, placesListed, progressAfter, startOf, turn, unchanged, usedListed}
-use Rattle.scan_cdp.specs.Turns.{feeId, payloadSize}
+use Rattle.scan_cdp.specs.Steps.{Entry, answerIn, cut, ended, limit, lists, marksOf, placesListed, progressAfter, startOf, outcomeIn, unchanged, usedListed}
+use Rattle.scan_cdp.specs.Outcomes.{feeId, payloadSize}
 use Rattle.scan_cdp.specs.Windows.{outside, partAt, shown}
 use Rattle.scan_cdp.specs.declared.Part.{Part}
 use Rattle.scan_cdp.specs.declared.Progress.{Progress}
 use Rattle.scan_cdp.specs.declared.Settings.{Settings}
 use Rattle.scan_cdp.specs.declared.State.{State}
-use Rattle.scan_cdp.specs.declared.Turn.{Turn}
+use Rattle.scan_cdp.specs.declared.Outcome.{Outcome}
 use Rattle.scan_window.specs.Stepping.{numbersUnusable}
 use Rattle.scan_window.specs.declared.Step.{Step}
 
@@ -30,8 +30,8 @@ pub record HeaderHere (p : Progress) (start left : ℕ) : Type 0 where
   pub whole : 64 ≤ left
 
 -- The reply for a header that has an outcome.
-pub record Stepped (set : Settings) (p : Progress) (t : Turn) (h : RdhCru) (start left linksUsed feeIdsUsed : ℕ) (r : Step) : Type 0 where
-  pub answer : answerOf (r .answer)
+pub record Stepped (set : Settings) (p : Progress) (t : Outcome) (h : RdhCru) (start left linksUsed feeIdsUsed : ℕ) (r : Step) : Type 0 where
+  pub answer : examinedAnswer (r .answer)
       ≡ answerIn t h (partAt (start + 64) (readSize (set .«skip_payload») (cut (set .«skip_payload») t h left) h))
       (startOf (p .load) (p .position)) (p .position)
   pub marks : r .marks ≡ marksOf set t p h left
@@ -41,7 +41,7 @@ pub record Stepped (set : Settings) (p : Progress) (t : Turn) (h : RdhCru) (star
 unfoldable pub headerStepped : Settings → State → List ℕ → RdhCru → (start left : ℕ) → (last : Bool) → Entry Part
 headerStepped set s feeIds h start left last =
     let p = s .progress in
-    let t = turn set p feeIds h in
+    let t = outcomeIn set p feeIds h in
     let skip = set .«skip_payload» in
     pick (not last && cut skip t h left) (unchanged s feeIds (gives (wants (p .place) (64 + payloadSize h))))
     (record {

@@ -13,13 +13,13 @@ use Rattle.rdh.specs.declared.rdh_cru.RdhCru.{RdhCru}
 use Rattle.serde_rdh.specs.Layout.{decode, decoded}
 use Rattle.serde_rdh.specs.LayoutLaws.{decode-given, decode-refused}
 use Rattle.scan_cdp.specs.Answers.{wants}
-use Rattle.scan_cdp.specs.Steps.{cut, ended, limit, lists, placesListed, progressAfter, turn, unchanged, usedListed}
-use Rattle.scan_cdp.specs.Turns.{feeId, payloadSize}
+use Rattle.scan_cdp.specs.Steps.{cut, ended, limit, lists, placesListed, progressAfter, outcomeIn, unchanged, usedListed}
+use Rattle.scan_cdp.specs.Outcomes.{feeId, payloadSize}
 use Rattle.scan_cdp.specs.Windows.{outside, shown}
 use Rattle.scan_laws.specs.WindowLaws.{shown-within}
 use Rattle.scan_cdp.specs.declared.Progress.{Progress}
 use Rattle.scan_cdp.specs.declared.Settings.{Settings}
-use Rattle.scan_cdp.specs.declared.Turn.{Turn}
+use Rattle.scan_cdp.specs.declared.Outcome.{Outcome}
 use Rattle.scan_window.specs.Stepping.{numbersUnusable, stepOf, withLinks}
 use Rattle.scan_window.specs.declared.Step.{Step}
 use Rattle.scan_step.specs.Stepping.{Stepped, headerStepped, steppedByNumbers}
@@ -28,8 +28,8 @@ use Rattle.scan_step.specs.Stepping.{Stepped, headerStepped, steppedByNu
 
 module _ (set : Settings) (p : Progress) (links feeIds : List ℕ) (h : RdhCru) (start left : ℕ) (last : Bool) where
   -- what becomes of the header
-  abbrev pub outcome : Turn
-  outcome = turn set p feeIds h
+  abbrev pub outcome : Outcome
+  outcome = outcomeIn set p feeIds h
 
   -- whether its payload is wanted
   abbrev pub wanted : Bool

@@ -7,11 +7,11 @@ use scan_cdp::BytePlace;
 use scan_cdp::Counts;
 use scan_cdp::LoadCdp;
 use scan_cdp::Marks;
+use scan_cdp::Outcome;
 use scan_cdp::Position;
 use scan_cdp::Progress;
 use scan_cdp::Refusal;
 use scan_cdp::Settings;
-use scan_cdp::Turn;
 use scan_window::Step;
 use scan_window::WANTED_HEADER;
 use scan_window::lacking;
@@ -79,21 +79,21 @@ fn header_step(
 {
     let place = progress.place;
     let load = progress.load;
-    let first = turn::is_first(load);
+    let first = outcome::is_first(load);
     let fee_id = rdh.rdh0.fee_id.0;
     let full = set.stats & stats::fee_ids_full(fee_ids, progress.fee_ids_used, fee_id);
-    let turn = turn::turn_of(set, first, full, rdh);
-    if !last & turn_counts::is_cut(set.skip_payload, turn, rdh, left) {
-        let size = WANTED_HEADER + turn_counts::payload_size(rdh.memory_size) as u64;
+    let outcome = outcome::outcome_of(set, first, full, rdh);
+    if !last & outcome_counts::is_cut(set.skip_payload, outcome, rdh, left) {
+        let size = WANTED_HEADER + outcome_counts::payload_size(rdh.memory_size) as u64;
         return unchanged(progress, LoadCdp::Want(place, size));
     }
-    let due = set.stats & turn::is_counted(first, turn);
+    let due = set.stats & outcome::is_counted(first, outcome);
     let links_used = list_link(due, links, progress.links_used, rdh.link_id);
     let fee_ids_used = list_fee_id(due, fee_ids, progress.fee_ids_used, fee_id);
     stepped(
         set,
         progress,
-        turn,
+        outcome,
         rdh,
         start,
         left,
@@ -106,7 +106,7 @@ fn header_step(
 fn stepped(
     set: Settings,
     progress: Progress,
-    turn: Turn,
+    outcome: Outcome,
     rdh: RdhCru,
     start: usize,
     left: usize,
@@ -114,27 +114,27 @@ fn stepped(
     fee_ids_used: usize,
 ) -> Step
     requires { ⌜ HeaderHere progress start left ⌝ }
-    ensures { λ r. ⌜ Stepped set progress turn rdh start left «links_used» «fee_ids_used» r ⌝ }
+    ensures { λ r. ⌜ Stepped set progress outcome rdh start left «links_used» «fee_ids_used» r ⌝ }
 {
     let load = progress.load;
     let position = progress.position;
-    let first = turn::is_first(load);
-    let cut = turn_counts::is_cut(set.skip_payload, turn, rdh, left);
-    let payload = turn_counts::part(
+    let first = outcome::is_first(load);
+    let cut = outcome_counts::is_cut(set.skip_payload, outcome, rdh, left);
+    let payload = outcome_counts::part(
         start + RDH_CRU_SIZE_BYTES,
-        turn_counts::read_size(set.skip_payload, cut, rdh),
+        outcome_counts::read_size(set.skip_payload, cut, rdh),
     );
-    let tally = turn_counts::tallied(set, first, turn, progress.counts, rdh);
+    let tally = outcome_counts::tallied(set, first, outcome, progress.counts, rdh);
     Step {
-        answer: turn_effects::answer(
-            turn,
+        answer: outcome_effects::answer(
+            outcome,
             rdh,
             payload,
-            turn_moves::start_of(load, position),
+            outcome_moves::start_of(load, position),
             position,
         ),
         marks: Marks {
-            initial: turn_effects::initial_collect_stats(set.stats, first, position, rdh),
+            initial: outcome_effects::initial_collect_stats(set.stats, first, position, rdh),
             seen_carry: tally.seen.carry,
             filtered_carry: tally.filtered.carry,
             payload_carry: tally.payload.carry,
@@ -143,10 +143,10 @@ fn stepped(
         progress: Progress {
             place: BytePlace(
                 progress.place.0
-                    + turn_moves::place_moved(set.skip_payload, turn, cut, rdh, left) as u64,
+                    + outcome_moves::place_moved(set.skip_payload, outcome, cut, rdh, left) as u64,
             ),
-            position: Position(position.0 + turn_moves::position_moved(turn, rdh)),
-            load: turn_moves::load_after(turn, load, position),
+            position: Position(position.0 + outcome_moves::position_moved(outcome, rdh)),
+            load: outcome_moves::load_after(outcome, load, position),
             counts: Counts {
                 seen: tally.seen.value,
                 filtered: tally.filtered.value,

@@ -7,7 +7,7 @@ use lib.Dec.{eqb, ltb}
 use Rattle.basis.specs.Pick.{pick}
 use Rattle.basis.specs.Refusals.{Answer, gives}
 use Rattle.stats.specs.Counts.{fullCount}
-use Rattle.scan_cdp.specs.Answers.{Found, answerOf, wants}
+use Rattle.scan_cdp.specs.Answers.{Found, examinedAnswer, wants}
 use Rattle.scan_cdp.specs.Steps.{Entry, ended, limit, noMarks, unchanged}
 use Rattle.scan_cdp.specs.declared.Part.{Part}
 use Rattle.scan_cdp.specs.declared.Progress.{Progress}
@@ -21,7 +21,7 @@ withLinks p links = record { progress = p; links = links }
 -- A step's reply, with the links and FEE ids that it leaves.
 abbrev pub stepOf : Step → List ℕ → List ℕ → Entry Part
 stepOf r links feeIds =
-    record { answer = answerOf (r .answer); marks = r .marks; state = withLinks (r .progress) links; feeIds = feeIds }
+    record { answer = examinedAnswer (r .answer); marks = r .marks; state = withLinks (r .progress) links; feeIds = feeIds }
 
 -- Refusal 6 by state and list, but for a link that is listed twice.
 unfoldable pub numbersUnusable : Progress → ℕ → ℕ → Bool
@@ -32,7 +32,7 @@ numbersUnusable p links feeIds =
 
 -- A reply that changes nothing.
 pub record Unchanged (p : Progress) (a : Answer (Found Part)) (r : Step) : Type 0 where
-  pub answer : answerOf (r .answer) ≡ a
+  pub answer : examinedAnswer (r .answer) ≡ a
   pub marks : r .marks ≡ noMarks
   pub progress : r .progress ≡ p
 

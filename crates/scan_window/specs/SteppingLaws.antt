@@ -9,7 +9,7 @@ use lib.ListN.{length, take}
 use Rattle.basis.specs.Pick.{neither, off, on}
 use Rattle.basis.specs.Refusals.{Answer}
 use Rattle.stats.specs.Counts.{fullCount}
-use Rattle.stats.specs.Listed.{placesAfter, twice, usedAfter}
+use Rattle.stats.specs.Lists.{placesAfter, twice, usedAfter}
 use Rattle.scan_cdp.specs.Answers.{Found}
 use Rattle.scan_cdp.specs.Steps.{limit, placesListed, unchanged, unusable, usedListed}
 use Rattle.scan_cdp.specs.Windows.{outside}

@@ -97,7 +97,7 @@ pub fn lacking(progress: Progress, end: u64, last: bool) -> Step
         return unchanged(progress, LoadCdp::Want(place, WANTED_HEADER));
     }
     Step {
-        answer: turn_effects::refused(Refusal::End),
+        answer: outcome_effects::refused(Refusal::End),
         marks: no_marks(),
         progress: Progress {
             place: BytePlace(greater(place.0, end)),

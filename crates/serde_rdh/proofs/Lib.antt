@@ -1,3 +1,3 @@
-pub mod Held
+pub mod Ranges
 pub mod Stores
 pub mod WordLaws

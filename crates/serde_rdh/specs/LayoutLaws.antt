@@ -34,47 +34,47 @@ Each P [] = Unit
 Each P (f ∷ fs) = P f × Each P fs
 
 -- f is the field of the list that starts at its byte
-Listed : Field → List Field → Type 0
-Listed f [] = ⊥
-Listed f (g ∷ fs) = pick (eqb (span f .offset) (span g .offset)) (f ≡ g) (Listed f fs)
+Among : Field → List Field → Type 0
+Among f [] = ⊥
+Among f (g ∷ fs) = pick (eqb (span f .offset) (span g .offset)) (f ≡ g) (Among f fs)
 
-listed : (f : Field) → Listed f fields
-unfolding Listed span
-listed header-id = refl
-listed header-size = refl
-listed fee-id = refl
-listed priority-bit = refl
-listed system-id = refl
-listed rdh0-reserved0 = refl
-listed offset-new-packet = refl
-listed memory-size = refl
-listed link-id = refl
-listed packet-counter = refl
-listed cruid-dw = refl
-listed bc-reserved0 = refl
-listed orbit = refl
-listed dataformat-reserved0 = refl
-listed trigger-type = refl
-listed pages-counter = refl
-listed stop-bit = refl
-listed rdh2-reserved0 = refl
-listed reserved1 = refl
-listed detector-field = refl
-listed par-bit = refl
-listed rdh3-reserved0 = refl
-listed reserved2 = refl
+among : (f : Field) → Among f fields
+unfolding Among span
+among header-id = refl
+among header-size = refl
+among fee-id = refl
+among priority-bit = refl
+among system-id = refl
+among rdh0-reserved0 = refl
+among offset-new-packet = refl
+among memory-size = refl
+among link-id = refl
+among packet-counter = refl
+among cruid-dw = refl
+among bc-reserved0 = refl
+among orbit = refl
+among dataformat-reserved0 = refl
+among trigger-type = refl
+among pages-counter = refl
+among stop-bit = refl
+among rdh2-reserved0 = refl
+among reserved1 = refl
+among detector-field = refl
+among par-bit = refl
+among rdh3-reserved0 = refl
+among reserved2 = refl
 
-of-each : (P : Field → Type 0) (f : Field) (fs : List Field) → Listed f fs → Each P fs → P f
-unfolding Listed
+of-each : (P : Field → Type 0) (f : Field) (fs : List Field) → Among f fs → Each P fs → P f
+unfolding Among
 of-each P f [] l e = absurd l
 of-each P f (g ∷ fs) l e = go (eqb (span f .offset) (span g .offset)) l (λ later. of-each P f fs later (e .1))
   where
-    go : (b : Bool) → pick b (f ≡ g) (Listed f fs) → (Listed f fs → P f) → P f
+    go : (b : Bool) → pick b (f ≡ g) (Among f fs) → (Among f fs → P f) → P f
     go true same next = subst P (sym same) (e .0)
     go false later next = next later
 
 pub every : (P : Field → Type 0) → Each P fields → (f : Field) → P f
-every P e f = of-each P f fields (listed f) e
+every P e f = of-each P f fields (among f) e
 
 -- ---- the fields of a header
 

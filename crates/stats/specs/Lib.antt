@@ -1,4 +1,4 @@
 pub mod Counts
 pub mod CountsLaws
-pub mod Listed
-pub mod ListedLaws
+pub mod Lists
+pub mod ListsLaws

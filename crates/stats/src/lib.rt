@@ -3,7 +3,7 @@ ghost use mathlib.Core.Path.{_≡_};
 ghost use Prim.Native.Nat.{min};
 ghost use lib.ListN.{take};
 ghost use Rattle.stats.specs.Counts.{added};
-ghost use Rattle.stats.specs.Listed.{full, member, placesAfter, twice, usedAfter};
+ghost use Rattle.stats.specs.Lists.{full, member, placesAfter, twice, usedAfter};
 
 // A count, and whether it was full and started again at 0.
 pub struct Count {

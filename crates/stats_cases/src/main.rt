@@ -2,51 +2,51 @@
 // or said to be more than there is.
 fn answer(b: bool) {
     if b {
-        show::text(b" yes");
+        cases_show::text(b" yes");
     } else {
-        show::text(b" no");
+        cases_show::text(b" no");
     }
 }
 
 fn added(count: u32, n: u32) {
     let c = stats::add(count, n);
-    show::number(count as u64);
-    show::text(b" +");
-    show::number(n as u64);
-    show::text(b" =");
-    show::number(c.value as u64);
+    cases_show::number(count as u64);
+    cases_show::text(b" +");
+    cases_show::number(n as u64);
+    cases_show::text(b" =");
+    cases_show::number(c.value as u64);
     if c.carry {
-        show::text(b", carried");
+        cases_show::text(b", carried");
     }
-    show::end();
+    cases_show::end();
 }
 
 fn links(list: &[u8], used: usize) {
-    show::text(b"links");
-    show::bytes(list);
-    show::text(b" used");
-    show::number(used as u64);
-    show::text(b": 0");
+    cases_show::text(b"links");
+    cases_show::bytes(list);
+    cases_show::text(b" used");
+    cases_show::number(used as u64);
+    cases_show::text(b": 0");
     answer(stats::has_link(list, used, 0));
-    show::text(b", 7");
+    cases_show::text(b", 7");
     answer(stats::has_link(list, used, 7));
-    show::text(b", 255");
+    cases_show::text(b", 255");
     answer(stats::has_link(list, used, 255));
-    show::text(b", twice");
+    cases_show::text(b", twice");
     answer(stats::has_link_twice(list, used));
-    show::end();
+    cases_show::end();
 }
 
 fn fee_ids(list: &[u16], used: usize) {
-    show::text(b"FEE ids, used");
-    show::number(used as u64);
-    show::text(b": 0x502a");
+    cases_show::text(b"FEE ids, used");
+    cases_show::number(used as u64);
+    cases_show::text(b": 0x502a");
     answer(stats::has_fee_id(list, used, 0x502A));
-    show::text(b", 42");
+    cases_show::text(b", 42");
     answer(stats::has_fee_id(list, used, 42));
-    show::text(b", 65535");
+    cases_show::text(b", 65535");
     answer(stats::has_fee_id(list, used, 65535));
-    show::end();
+    cases_show::end();
 }
 
 fn main() {

@@ -25,11 +25,11 @@ fn put(out: &mut [u8], at: usize, piece: Piece) -> usize {
 }
 
 fn shown(out: &[u8], place: usize) {
-    show::text(b"[");
-    show::text(out);
-    show::text(b"]");
-    show::number(place as u64);
-    show::end();
+    cases_show::text(b"[");
+    cases_show::text(out);
+    cases_show::text(b"]");
+    cases_show::number(place as u64);
+    cases_show::end();
 }
 
 fn put_shown(out: &mut [u8], at: usize, piece: Piece) {
@@ -59,14 +59,14 @@ fn string(length: usize, at: usize, s: &[u8]) {
 }
 
 fn strings() {
-    show::text(b"a byte\n");
+    cases_show::text(b"a byte\n");
     case(3, 0, Piece::Byte(b'x'));
     case(3, 2, Piece::Byte(b'x'));
     case(3, 3, Piece::Byte(b'x'));
     case(0, 0, Piece::Byte(b'x'));
     case(3, 18446744073709551614, Piece::Byte(b'x'));
     case(3, 18446744073709551615, Piece::Byte(b'x'));
-    show::text(b"a byte string\n");
+    cases_show::text(b"a byte string\n");
     string(6, 0, b"abc");
     string(6, 2, b"abc");
     string(6, 4, b"abc");
@@ -74,7 +74,7 @@ fn strings() {
     string(6, 1, b"");
     string(0, 0, b"abc");
     string(6, 18446744073709551614, b"abc");
-    show::text(b"blanks\n");
+    cases_show::text(b"blanks\n");
     case(6, 0, Piece::Blanks(3));
     case(6, 4, Piece::Blanks(0));
     case(6, 4, Piece::Blanks(2));
@@ -85,7 +85,7 @@ fn strings() {
 }
 
 fn numbers() {
-    show::text(b"decimal\n");
+    cases_show::text(b"decimal\n");
     case(2, 0, Piece::Decimal(0));
     case(2, 0, Piece::Decimal(9));
     case(2, 0, Piece::Decimal(10));
@@ -102,7 +102,7 @@ fn numbers() {
         18446744073709551600,
         Piece::Decimal(18446744073709551615),
     );
-    show::text(b"hexadecimal\n");
+    cases_show::text(b"hexadecimal\n");
     case(4, 0, Piece::Hex(0));
     case(4, 0, Piece::Hex(15));
     case(4, 0, Piece::Hex(16));
@@ -117,7 +117,7 @@ fn numbers() {
 }
 
 fn columns() {
-    show::text(b"to the left\n");
+    cases_show::text(b"to the left\n");
     case(8, 1, Piece::DecimalLeft(42, 6));
     case(8, 1, Piece::DecimalLeft(123456, 6));
     case(8, 0, Piece::DecimalLeft(1234567, 6));
@@ -128,7 +128,7 @@ fn columns() {
     case(12, 0, Piece::HexLeft(0xffffffff, 10));
     case(12, 0, Piece::HexLeft(0xffffffff, 4));
     case(3, 0, Piece::HexLeft(1, 4));
-    show::text(b"to the right\n");
+    cases_show::text(b"to the right\n");
     case(8, 1, Piece::DecimalRight(42, 6));
     case(8, 1, Piece::DecimalRight(123456, 6));
     case(8, 0, Piece::DecimalRight(1234567, 6));

@@ -9,7 +9,7 @@ ghost use Rattle.basis.specs.Pick.{pick};
 ghost use Rattle.text.specs.Ascii.{ascii};
 ghost use Rattle.text.specs.Put.{Put};
 ghost use Rattle.trigger_stats.specs.Counters.{counterAt, counters};
-ghost use Rattle.trigger_texts.specs.Lines.{inOrder};
+ghost use Rattle.trigger_texts.specs.CounterOrder.{inOrder};
 ghost use Rattle.trigger_texts.specs.Mismatches.{Compares, mismatchIfAny, mismatchOf, name};
 
 // The length of the longest comparison, with ten digits in every number.

@@ -1,5 +1,5 @@
-pub mod Lines
-pub mod LinesLaws
+pub mod CounterOrder
+pub mod CounterOrderLaws
 pub mod TriggerList
 pub mod TriggerListLaws
 pub mod Mismatches

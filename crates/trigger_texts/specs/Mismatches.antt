@@ -13,7 +13,7 @@ use Rattle.trigger_stats.specs.declared.TriggerStats.{TriggerStats}
 use Rattle.trigger_stats.specs.Counters.{Counter, bitOf, count}
 use Rattle.trigger_stats.specs.Counters.{orbit, hb, hbr, hc, pht, pp, cal, sot, eot, soc, eoc, tf, fe-rst, rt, rs}
 use Rattle.trigger_stats.specs.Counters.{lhc-gap1, lhc-gap2, tpc-sync, tpc-rst, tof}
-use Rattle.trigger_texts.specs.Lines.{inOrder}
+use Rattle.trigger_texts.specs.CounterOrder.{inOrder}
 
 -- A field's name, as the macro's `stringify!` writes it.
 unfoldable pub name : Counter → String

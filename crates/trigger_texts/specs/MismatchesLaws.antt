@@ -18,8 +18,8 @@ use Rattle.trigger_stats.specs.declared.TriggerStats.{TriggerStats}
 use Rattle.trigger_stats.specs.Counters.{Counter, InRange, bitOf, count, counters}
 use Rattle.trigger_stats.specs.Counters.{orbit, hb, hbr, hc, pht, pp, cal, sot, eot, soc, eoc, tf, fe-rst, rt, rs}
 use Rattle.trigger_stats.specs.Counters.{lhc-gap1, lhc-gap2, tpc-sync, tpc-rst, tof}
-use Rattle.trigger_texts.specs.Lines.{inOrder}
-use Rattle.trigger_texts.specs.LinesLaws.{total, total-add, total-below, total-same, length-in-order}
+use Rattle.trigger_texts.specs.CounterOrder.{inOrder}
+use Rattle.trigger_texts.specs.CounterOrderLaws.{total, total-add, total-below, total-same, length-in-order}
 use Rattle.trigger_texts.specs.TriggerListLaws.{length-decimal}
 use Rattle.trigger_texts.specs.Mismatches.{Compares, DifferingOnce, mismatch, mismatchIfAny, mismatchOf, mismatchText, name, occurrences}
 

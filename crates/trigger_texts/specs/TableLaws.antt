@@ -10,7 +10,7 @@ use Rattle.text.specs.Ascii.{ascii}
 use Rattle.text_numbers.specs.NumeralLaws.{length-left}
 use Rattle.text_numbers.specs.Numerals.{left}
 use Rattle.trigger_stats.specs.Counters.{Counter, counterAt, counters, orbit}
-use Rattle.trigger_texts.specs.Lines.{inOrder}
+use Rattle.trigger_texts.specs.CounterOrder.{inOrder}
 use Rattle.trigger_texts.specs.Mismatches.{name}
 use Rattle.trigger_texts.specs.TriggerList.{label}
 

@@ -8,7 +8,7 @@ use Rattle.trigger_stats.specs.declared.TriggerStats.{TriggerStats}
 use Rattle.trigger_stats.specs.Counters.{Counter, count, counters}
 use Rattle.trigger_stats.specs.Counters.{orbit, hb, hbr, hc, pht, pp, cal, sot, eot, soc, eoc, tf, fe-rst, rt, rs}
 use Rattle.trigger_stats.specs.Counters.{lhc-gap1, lhc-gap2, tpc-sync, tpc-rst, tof}
-use Rattle.trigger_texts.specs.Lines.{inOrder}
+use Rattle.trigger_texts.specs.CounterOrder.{inOrder}
 
 -- What `Display` writes in front of each count.
 unfoldable pub label : Counter → String

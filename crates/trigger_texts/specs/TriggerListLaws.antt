@@ -9,8 +9,8 @@ use Rattle.text_numbers.specs.Numerals.{decimal, right}
 use Rattle.text_numbers.specs.NumeralLaws.{length-numeral}
 use Rattle.trigger_stats.specs.declared.TriggerStats.{TriggerStats}
 use Rattle.trigger_stats.specs.Counters.{Counter, InRange, count, counters}
-use Rattle.trigger_texts.specs.Lines.{inOrder}
-use Rattle.trigger_texts.specs.LinesLaws.{total, total-below, length-in-order}
+use Rattle.trigger_texts.specs.CounterOrder.{inOrder}
+use Rattle.trigger_texts.specs.CounterOrderLaws.{total, total-below, length-in-order}
 use Rattle.trigger_texts.specs.TriggerList.{label, line, lineOf, listText}
 
 -- a number of 32 bits has at most ten digits

@@ -47,10 +47,10 @@ pub record Judged : Type 0 where
   pub text-length : ℕ
 
 -- What each case of the code's enum says: a verdict, or refusal 7 with the length needed.
-abbrev pub answerOf : Verdict → Answer Judged
-answerOf Sound = gives (record { is-sound = true; text-length = 0 })
-answerOf (NotSound n) = gives (record { is-sound = false; text-length = n })
-answerOf (TooShort n) = refuses 7 (pos n ∷ [])
+abbrev pub verdictAnswer : Verdict → Answer Judged
+verdictAnswer Sound = gives (record { is-sound = true; text-length = 0 })
+verdictAnswer (NotSound n) = gives (record { is-sound = false; text-length = n })
+verdictAnswer (TooShort n) = refuses 7 (pos n ∷ [])
 
 -- What a check answers for a text buffer of a length (V7, R7).
 unfoldable pub answered : RdhCruSanityValidator → RdhCru → ℕ → Answer Judged
@@ -66,7 +66,7 @@ validatorAfter v h room = pick (leb (length (textOf v h)) room) (settledBy v h) 
 -- The contract of a check of the header `h` on the validator `v`, which is lent the buffer `l`: `r` is its reply, and `m` is what it leaves
 -- in the buffer.
 pub record Checks (v : RdhCruSanityValidator) (h : RdhCru) (l : List ℕ) (r : SanityCheck) (m : List ℕ) : Type 0 where
-  pub verdict : answerOf (r .verdict) ≡ answered v h (length l)
+  pub verdict : verdictAnswer (r .verdict) ≡ answered v h (length l)
   pub validator : r .validator ≡ validatorAfter v h (length l)
   pub leaves : m ≡ overwritten (textOf v h) l
 

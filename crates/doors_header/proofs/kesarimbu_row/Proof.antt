@@ -1,7 +1,7 @@
 -- The row of the header that C's struct is.
 use mathlib.Core.Path.{ap, _∙_}
 use Rattle.rdh.specs.declared.rdh_cru.RdhCru.{RdhCru}
-use Rattle.row.specs.Row.{rowText}
+use Rattle.rdh_row.specs.Row.{rowText}
 use Rattle.text.specs.Written.{overwritten, written}
 use Rattle.doors_header_structs.specs.Plain.{plainWritten}
 use borrow.Author.Needs.{needs}

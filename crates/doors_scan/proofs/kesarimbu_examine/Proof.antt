@@ -1,7 +1,7 @@
 -- The examination of what the structs say is handed back, with its marks as those of a load that makes no other.
 use mathlib.Core.Path.{_≡_, ap, _∙_}
 use Rattle.input_scanner.specs.Replies.{examinationOf}
-use Rattle.scan_cdp.specs.Answers.{answerOf}
+use Rattle.scan_cdp.specs.Answers.{examinedAnswer}
 use Rattle.scan_cdp.specs.Loads.{noLoadMarks, replied}
 use Rattle.scan_cdp.specs.Steps.{Entry}
 use Rattle.scan_cdp.specs.Windows.{examined}
@@ -49,7 +49,7 @@ returns c =
     ∙ (λ i.
     leftBy
     (record {
-      answer = answerOf (examination .result .answer);
+      answer = examinedAnswer (examination .result .answer);
       marks = marked .alone .ensures i;
       state = examination .result .state;
       feeIds = feeIds;

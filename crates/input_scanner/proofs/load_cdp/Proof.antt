@@ -6,7 +6,7 @@ use mathlib.Core.List.{[]}
 use native.Mathlib.Omega.{arith}
 use lib.ListN.{length}
 use Rattle.basis.specs.Refusals.{refuses}
-use Rattle.scan_cdp.specs.Answers.{answerOf}
+use Rattle.scan_cdp.specs.Answers.{examinedAnswer}
 use Rattle.scan_cdp.specs.Loads.{isPassed, loaded, loadedFrom}
 use Rattle.scan_cdp.specs.declared.Examined.{Examined}
 use Rattle.scan_cdp.specs.declared.LoadMarks.{LoadMarks}
@@ -70,7 +70,7 @@ loop-less c =
     let loop = c .before .before .before .before .before .before .before .before .before .before .before .loop in
     let s = withLinks (loop .progress) (loop .links) in
     let is = c .before .before .before .before .before .before .before .before .take-step .ensures ∙ once-examined (args .set) s (loop .fee-ids) (args .window .now) (args .first .0) (args .last) (loop .inv .once) in
-    let passes = ap (λ (a : Examined). isPassed (answerOf a)) (c .enum-told .given .1) in
+    let passes = ap (λ (a : Examined). isPassed (examinedAnswer a)) (c .enum-told .given .1) in
     let on-it =
     load-passes (args .set) _ (args .state) (args .fee-ids .now) (args .window .now) (args .first .0) (args .last) (loop .marks) s (loop .fee-ids)
     (loop .inv) _ is passes in
@@ -82,7 +82,7 @@ loop-again c =
     let loop = c .before .before .before .before .before .before .before .before .before .before .before .loop in
     let s = withLinks (loop .progress) (loop .links) in
     let is = c .before .before .before .before .before .before .before .before .take-step .ensures ∙ once-examined (args .set) s (loop .fee-ids) (args .window .now) (args .first .0) (args .last) (loop .inv .once) in
-    let passes = ap (λ (a : Examined). isPassed (answerOf a)) (c .enum-told .given .1) in
+    let passes = ap (λ (a : Examined). isPassed (examinedAnswer a)) (c .enum-told .given .1) in
     subst
     (λ (ms : LoadMarks).
     LoadTurn (args .set) (c .before .before .before .before .before .before .before .before .before .before .before .before .before .before .before .no-load-marks .result) (args .state) (args .fee-ids .now) (args .window .now) (args .first .0) (args .last) ms
@@ -111,9 +111,9 @@ returns-2 c =
     let s = withLinks (loop .progress) (loop .links) in
     let is = c .before .before .before .before .before .before .before .before .before .take-step .ensures ∙ once-examined (args .set) s (loop .fee-ids) (args .window .now) (args .first .0) (args .last) (loop .inv .once) in
     let told = c .before .answer .given .1 in
-    let stops = ap (λ (a : Examined). isPassed (answerOf a)) told ∙ not-passed (c .before .answer .given .0 .0) in
+    let stops = ap (λ (a : Examined). isPassed (examinedAnswer a)) told ∙ not-passed (c .before .answer .given .0 .0) in
     (λ i. record {
-      answer = sym (ap (λ (a : Examined). answerOf a) told) i;
+      answer = sym (ap (λ (a : Examined). examinedAnswer a) told) i;
       marks = c .before .before .before .before .together .ensures i;
       state = withLinks (c .before .before .before .before .before .before .before .before .before .take-step .result .progress) (c .before .before .before .before .before .before .before .before .before .take-step .last .1 .1 .0);
       feeIds = c .before .before .before .before .before .before .before .before .before .take-step .last .1 .1 .1 .0;

@@ -3,7 +3,7 @@ use Prim.Native.Nat.{_≤_}
 use mathlib.Core.Path.{_≡_, refl, ap, _∙_}
 use native.Mathlib.Omega.{arith}
 use lib.ListN.{length}
-use Rattle.window.specs.declared.Held.{Held}
+use Rattle.listing_window.specs.declared.Held.{Held}
 use Rattle.listing.specs.TurnLaws.{held-there, put-within, room-there}
 use borrow.Author.Needs.{needs}
 use Rattle.listing.proofs.list.Statement.{statement}

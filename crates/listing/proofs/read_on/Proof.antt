@@ -1,7 +1,7 @@
 -- What is held then stands in the buffer.
 use mathlib.Core.Path.{subst}
-use Rattle.window.specs.Held.{Shows}
-use Rattle.window.specs.declared.Refilled.{Refilled}
+use Rattle.listing_window.specs.Held.{Shows}
+use Rattle.listing_window.specs.declared.Refilled.{Refilled}
 use borrow.Author.Needs.{needs}
 use Rattle.listing.proofs.read_on.Statement.{statement}
 use Rattle.listing.proofs.read_on.Tie as tie

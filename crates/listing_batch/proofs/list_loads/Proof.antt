@@ -2,8 +2,8 @@
 use mathlib.Core.Path.{sym, _∙_}
 use borrow.Author.Tests.{le-ltb, lt-ltb}
 use Rattle.basis.specs.Pick.{off, on}
-use Rattle.listing_batch.specs.OutcomeLaws.{left-there}
-use Rattle.listing_batch.specs.Outcomes.{listedInto}
+use Rattle.listing_batch.specs.ListingLaws.{left-there}
+use Rattle.listing_batch.specs.Listings.{listedInto}
 use borrow.Author.Needs.{needs}
 use Rattle.listing_batch.proofs.list_loads.Statement.{statement}
 use Rattle.listing_batch.proofs.list_loads.Tie as tie

@@ -4,9 +4,9 @@ use native.Mathlib.Omega.{arith}
 use Rattle.text.specs.PutLaws.{put-nothing, respelled}
 use Rattle.input_scanner.specs.Replies.{loadOf}
 use lib.ListN.{length}
-use Rattle.lines.specs.Lines.{numberOf}
-use Rattle.lines.specs.LineLaws.{short-last}
-use Rattle.listing_load.specs.ListedLaws.{lines-refused, lists, unsound-refused, validator-refused}
+use Rattle.listing_lines.specs.Lines.{numberOf}
+use Rattle.listing_lines.specs.LineLaws.{short-last}
+use Rattle.listing_load.specs.LoadLinesLaws.{lines-refused, lists, unsound-refused, validator-refused}
 use borrow.Author.Needs.{needs}
 use Rattle.listing_load.proofs.list_cdp.Statement.{statement}
 use Rattle.listing_load.proofs.list_cdp.Tie as tie

@@ -5,13 +5,13 @@ use mathlib.Core.Path.{_≡_, ap, sym, subst, _∙_}
 use mathlib.Core.List.{List}
 use Rattle.rdh.specs.declared.rdh_cru.RdhCru.{RdhCru}
 use Rattle.basis.specs.Refusals.{gives}
-use Rattle.stats.specs.Listed.{full}
+use Rattle.stats.specs.Lists.{full}
 use Rattle.scan_cdp.specs.Answers.{wants}
-use Rattle.scan_cdp.specs.Steps.{cut, isFirst, lists, placesListed, turn, unchanged, usedListed}
-use Rattle.scan_cdp.specs.Turns.{counted, feeId, turnOf}
+use Rattle.scan_cdp.specs.Steps.{cut, isFirst, lists, placesListed, outcomeIn, unchanged, usedListed}
+use Rattle.scan_cdp.specs.Outcomes.{isCounted, feeId, outcomeOf}
 use Rattle.scan_cdp.specs.declared.Progress.{Progress}
 use Rattle.scan_cdp.specs.declared.Settings.{Settings}
-use Rattle.scan_cdp.specs.declared.Turn.{Turn}
+use Rattle.scan_cdp.specs.declared.Outcome.{Outcome}
 use Rattle.scan_window.specs.Stepping.{withLinks}
 use Rattle.scan_step.specs.Stepping.{Stepped}
 use Rattle.scan_window.specs.SteppingLaws.{nothing-changed}
@@ -21,18 +21,18 @@ use Rattle.scan_step.proofs.header_step.Statement.{statement}
 use Rattle.scan_step.proofs.header_step.Tie as tie
 
 -- the outcome, from what its parts ensure
-outcome-is : (set : Settings) (p : Progress) (fee-ids : List ℕ) (h : RdhCru) {first no-place : Bool} {t : Turn} → first ≡ isFirst (p .load)
-    → no-place ≡ full (feeId h) (p .«fee_ids_used») fee-ids → t ≡ turnOf set first (set .stats && no-place) h → t ≡ turn set p fee-ids h
-unfolding turn
-outcome-is set p fee-ids h first no-place t = t ∙ (λ i. turnOf set (first i) (set .stats && no-place i) h)
+outcome-is : (set : Settings) (p : Progress) (fee-ids : List ℕ) (h : RdhCru) {first no-place : Bool} {t : Outcome} → first ≡ isFirst (p .load)
+    → no-place ≡ full (feeId h) (p .«fee_ids_used») fee-ids → t ≡ outcomeOf set first (set .stats && no-place) h → t ≡ outcomeIn set p fee-ids h
+unfolding outcomeIn
+outcome-is set p fee-ids h first no-place t = t ∙ (λ i. outcomeOf set (first i) (set .stats && no-place i) h)
 
 -- whether its lists grow
-counted-is : (set : Settings) (p : Progress) {first is : Bool} {t t′ : Turn} → first ≡ isFirst (p .load) → t ≡ t′ → is ≡ counted first t
+counted-is : (set : Settings) (p : Progress) {first is : Bool} {t t′ : Outcome} → first ≡ isFirst (p .load) → t ≡ t′ → is ≡ isCounted first t
     → (set .stats && is) ≡ lists set t′ p
-counted-is set p first same is = λ i. set .stats && (is ∙ (λ j. counted (first j) (same j))) i
+counted-is set p first same is = λ i. set .stats && (is ∙ (λ j. isCounted (first j) (same j))) i
 
 -- whether its payload is wanted
-wanted-is : (set : Settings) (h : RdhCru) (left : ℕ) (last : Bool) {short : Bool} {t t′ : Turn} → t ≡ t′ → short ≡ cut (set .«skip_payload») t h left
+wanted-is : (set : Settings) (h : RdhCru) (left : ℕ) (last : Bool) {short : Bool} {t t′ : Outcome} → t ≡ t′ → short ≡ cut (set .«skip_payload») t h left
     → (not last && short) ≡ (not last && cut (set .«skip_payload») t′ h left)
 wanted-is set h left last same short = λ i. not last && (short ∙ (λ j. cut (set .«skip_payload») (same j) h left)) i
 
@@ -42,8 +42,8 @@ is-first-requires c κs = search needs
 fee-ids-full-requires : tie.Need-fee-ids-full-requires
 fee-ids-full-requires c κs = search needs
 
-turn-of-requires : tie.Need-turn-of-requires
-turn-of-requires c κs = search needs
+outcome-of-requires : tie.Need-outcome-of-requires
+outcome-of-requires c κs = search needs
 
 is-cut-requires : tie.Need-is-cut-requires
 is-cut-requires c κs = search needs
@@ -72,7 +72,7 @@ returns c =
     let fee-ids = args .fee-ids .now in
     let h = args .rdh in
     let first = c .before .before .before .before .before .before .before .before .is-first .ensures in
-    let t = outcome-is set p fee-ids h first (c .before .before .before .before .before .before .fee-ids-full .ensures) (c .before .before .before .before .turn-of .ensures) in
+    let t = outcome-is set p fee-ids h first (c .before .before .before .before .before .before .fee-ids-full .ensures) (c .before .before .before .before .outcome-of .ensures) in
     let wanted = wanted-is set h (args .left) (args .last) t (c .before .before .before .is-cut .ensures) in
     nothing-changed (c .unchanged .ensures) links fee-ids
     ∙ ap (λ (n : ℕ). unchanged (withLinks p links) fee-ids (gives (wants (p .place) (64 + n)))) (c .before .payload-size .ensures)
@@ -105,13 +105,13 @@ returns-2 c =
     let fee-ids = args .fee-ids .now in
     let h = args .rdh in
     let first = c .before .before .before .before .before .before .before .before .before .before .before .before .before .before .before .before .before .is-first .ensures in
-    let t = outcome-is set p fee-ids h first (c .before .before .before .before .before .before .before .before .before .before .before .before .before .before .before .fee-ids-full .ensures) (c .before .before .before .before .before .before .before .before .before .before .before .before .before .turn-of .ensures) in
+    let t = outcome-is set p fee-ids h first (c .before .before .before .before .before .before .before .before .before .before .before .before .before .before .before .fee-ids-full .ensures) (c .before .before .before .before .before .before .before .before .before .before .before .before .before .outcome-of .ensures) in
     let wanted = wanted-is set h (args .left) (args .last) t (c .before .before .before .before .before .before .before .before .before .before .before .before .is-cut .ensures) in
     let due = counted-is set p first t (c .before .before .before .before .before .before .before .before .before .before .is-counted .ensures) in
     let link = c .before .before .before .before .before .before .before .list-link in
     let fee = c .before .before .before .list-fee-id in
     header-entered set p links fee-ids h (args .start) (args .left) (args .last) (sym wanted ∙ c .before .before .before .before .before .before .before .before .before .before .before .if1 .left) _ _ _ _
-    (subst (λ (u : Turn). Stepped set p u h (args .start) (args .left) (link .result) (fee .result) (c .stepped .result)) t (c .stepped .ensures))
+    (subst (λ (u : Outcome). Stepped set p u h (args .start) (args .left) (link .result) (fee .result) (c .stepped .result)) t (c .stepped .ensures))
     (link .ensures .0 ∙ (λ i. usedListed (due i) (h .«link_id») (p .«links_used») links))
     (link .ensures .1 ∙ (λ i. placesListed (due i) (h .«link_id») (p .«links_used») links))
     (fee .ensures .0 ∙ (λ i. usedListed (due i) (feeId h) (p .«fee_ids_used») fee-ids))
@@ -123,7 +123,7 @@ header-step-spec =
     (tie.spec
     is-first-requires
     fee-ids-full-requires
-    turn-of-requires
+    outcome-of-requires
     is-cut-requires
     payload-size-requires
     cast-size

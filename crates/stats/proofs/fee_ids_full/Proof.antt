@@ -1,7 +1,7 @@
 -- A list with a free place is not full; one without is full where it lacks the id.
 use mathlib.Core.Bool.{Bool, not}
 use mathlib.Core.Path.{ap, _∙_}
-use Rattle.stats.specs.ListedLaws.{has-place, searched}
+use Rattle.stats.specs.ListsLaws.{has-place, searched}
 use borrow.Author.Needs.{needs}
 use Rattle.stats.proofs.fee_ids_full.Statement.{statement}
 use Rattle.stats.proofs.fee_ids_full.Tie as tie

@@ -1,6 +1,6 @@
 -- The three cases: no place, known, new.
 use mathlib.Core.Path.{sym, _∙_}
-use Rattle.stats.specs.ListedLaws.{known, new, no-place}
+use Rattle.stats.specs.ListsLaws.{known, new, no-place}
 use borrow.Author.Needs.{needs}
 use Rattle.stats.proofs.try_add_link.Statement.{statement}
 use Rattle.stats.proofs.try_add_link.Tie as tie

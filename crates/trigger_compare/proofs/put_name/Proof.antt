@@ -4,7 +4,7 @@ use borrow.Author.Needs.{needs}
 use Rattle.text_numbers.specs.Numerals.{left}
 use Rattle.text.specs.PutLaws.{respelled}
 use Rattle.text.specs.PutLaws.{same-length as kept-length}
-use Rattle.trigger_texts.specs.Lines.{inOrder}
+use Rattle.trigger_texts.specs.CounterOrder.{inOrder}
 use Rattle.trigger_texts.specs.Mismatches.{name}
 use Rattle.trigger_texts.specs.TableLaws.{name-at, short-name}
 use Rattle.trigger_compare.proofs.put_name.Statement.{statement}

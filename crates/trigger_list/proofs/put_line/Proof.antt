@@ -2,7 +2,7 @@
 use borrow.Author.Needs.{needs}
 use Rattle.text.specs.PutLaws.{and-then, respelled}
 use Rattle.text.specs.PutLaws.{same-length as kept-length}
-use Rattle.trigger_texts.specs.Lines.{inOrder}
+use Rattle.trigger_texts.specs.CounterOrder.{inOrder}
 use Rattle.trigger_texts.specs.TriggerList.{label, lineOf}
 use Rattle.trigger_texts.specs.TableLaws.{label-at}
 use Rattle.trigger_list.proofs.put_line.Statement.{statement}

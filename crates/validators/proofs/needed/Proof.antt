@@ -3,7 +3,7 @@ use native.Mathlib.Nat.{le-trans}
 use native.Mathlib.Omega.{arith}
 use Rattle.text.specs.PutLaws.{measured}
 use Rattle.validators.specs.TextLengths.{longest-text}
-use Rattle.serde_rdh.proofs.Held.{in-range}
+use Rattle.serde_rdh.proofs.Ranges.{in-range}
 use borrow.Author.Needs.{needs}
 use Rattle.validators.proofs.needed.Statement.{statement}
 use Rattle.validators.proofs.needed.Tie as tie

@@ -1,0 +1,50 @@
+-- Laws of the outcome.
+use mathlib.Core.Bool.{Bool, true, false, _&&_}
+use mathlib.Core.Path.{_≡_, refl, _∙_}
+use Prim.Native.Nat.{_<_, _≤_}
+use borrow.Author.Tests.{lt-ltb, le-ltb}
+use Rattle.basis.specs.Pick.{on, off, pick}
+use Rattle.filter.specs.Filter.{matches, targetOf}
+use Rattle.rdh.specs.declared.rdh_cru.RdhCru.{RdhCru}
+use Rattle.scan_cdp.specs.Outcomes.{badOffset, feeId, filtered, memorySize, offset, skipped, outcomeOf}
+use Rattle.scan_cdp.specs.declared.Settings.{Settings}
+use Rattle.scan_cdp.specs.declared.Outcome.the-variants.{FeeIdsFull, BadOffset, HandedOut, MemorySize, Passed}
+
+in-a-row : {A : Type 0} (first full bad : Bool) (four two other : A)
+    → pick first (pick full four (pick bad two other)) (pick bad two (pick full four other))
+    ≡ pick (first && full) four (pick bad two (pick full four other))
+in-a-row true true bad four two other = refl
+in-a-row true false true four two other = refl
+in-a-row true false false four two other = refl
+in-a-row false full bad four two other = refl
+
+-- The two orders of refusals 2 and 4 as three tests in a row: 4 where it is due on a first header; then 2; then 4, which a first header no
+-- longer has.
+pub tests-in-a-row : (set : Settings) (first full : Bool) (h : RdhCru)
+    → outcomeOf set first full h
+    ≡ pick (first && full) FeeIdsFull (pick (badOffset (offset h)) BadOffset (pick full FeeIdsFull (filtered set h)))
+unfolding outcomeOf
+tests-in-a-row set first full h = in-a-row first full (badOffset (offset h)) FeeIdsFull BadOffset (filtered set h)
+
+-- ---- what the filter and the memory size make of a header
+
+module _ (set : Settings) (h : RdhCru) where
+  -- whether the header matches the filter
+  abbrev pub taken : Bool
+  taken = matches (targetOf (set .filter)) (h .«link_id») (feeId h)
+
+  pub mismatch : taken ≡ false → filtered set h ≡ skipped (offset h) Passed
+  unfolding filtered
+  mismatch e = off _ _ e
+
+  pub no-payload : taken ≡ true → memorySize h < 64 → filtered set h ≡ MemorySize
+  unfolding filtered
+  no-payload e small = on _ _ e ∙ on _ _ (lt-ltb (memorySize h) 64 small)
+
+  pub skipping : taken ≡ true → 64 ≤ memorySize h → set .«skip_payload» ≡ true → filtered set h ≡ skipped (offset h) HandedOut
+  unfolding filtered
+  skipping e large skip = on _ _ e ∙ off _ _ (le-ltb (memorySize h) 64 large) ∙ on _ _ skip
+
+  pub reading : taken ≡ true → 64 ≤ memorySize h → set .«skip_payload» ≡ false → filtered set h ≡ HandedOut
+  unfolding filtered
+  reading e large read = on _ _ e ∙ off _ _ (le-ltb (memorySize h) 64 large) ∙ off _ _ read

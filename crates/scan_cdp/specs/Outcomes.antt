@@ -1,0 +1,74 @@
+-- What becomes of one header: steps 2 to 4 of an examination (S2 to S4), in their order.
+use Prim.Native.Nat.{ℕ, _-_}
+use mathlib.Core.Bool.{Bool, true, false, not, _||_, _&&_}
+use lib.Dec.{ltb}
+use Rattle.basis.specs.Pick.{pick}
+use Rattle.filter.specs.Filter.{matches, targetOf}
+use Rattle.rdh.specs.declared.rdh_cru.RdhCru.{RdhCru}
+use Rattle.scan_cdp.specs.declared.Settings.{Settings}
+use Rattle.scan_cdp.specs.declared.Outcome.{Outcome}
+use Rattle.scan_cdp.specs.declared.Outcome.the-variants.{FeeIdsFull, BadOffset, MemorySize, NegativeSkip, Passed, HandedOut}
+
+-- The header's fields by the names that the rules have for them (T2).
+abbrev pub offset : RdhCru → ℕ
+offset h = h .«offset_new_packet»
+
+abbrev pub memorySize : RdhCru → ℕ
+memorySize h = h .«memory_size»
+
+abbrev pub feeId : RdhCru → ℕ
+feeId h = h .rdh0 .«fee_id» .0
+
+-- The payload size (T2). It is 0 for a memory size below 64, which no packet has (R3).
+abbrev pub payloadSize : RdhCru → ℕ
+payloadSize h = memorySize h - 64
+
+-- Whether an offset is outside 64 to 10,064 (R2).
+abbrev pub badOffset : ℕ → Bool
+badOffset n = ltb n 64 || ltb 10064 n
+
+-- Where a distance is skipped and is below 0, refusal 5.
+unfoldable pub skipped : ℕ → Outcome → Outcome
+skipped n t = pick (ltb n 64) NegativeSkip t
+
+-- Steps 3 and 4. A mismatch is passed, which skips to the next header; a match may have refusal 3, and what is then handed out is skipped
+-- unless its payload is read.
+unfoldable pub filtered : Settings → RdhCru → Outcome
+filtered set h =
+    pick (matches (targetOf (set .filter)) (h .«link_id») (feeId h))
+    (pick (ltb (memorySize h) 64) MemorySize (pick (set .«skip_payload») (skipped (offset h) HandedOut) HandedOut))
+    (skipped (offset h) Passed)
+
+-- Step 2, then the others. A first header meets refusal 4 before 2, a later one 2 before 4 (S2).
+unfoldable pub outcomeOf : Settings → (first full : Bool) → RdhCru → Outcome
+outcomeOf set first full h =
+    pick first
+    (pick full FeeIdsFull (pick (badOffset (offset h)) BadOffset (filtered set h)))
+    (pick (badOffset (offset h)) BadOffset (pick full FeeIdsFull (filtered set h)))
+
+-- Whether step 2 counted the header: a later one that has refusal 2 was not counted (R2).
+abbrev pub isCounted : Bool → Outcome → Bool
+isCounted first FeeIdsFull = true
+isCounted first BadOffset = first
+isCounted first MemorySize = true
+isCounted first NegativeSkip = true
+isCounted first Passed = true
+isCounted first HandedOut = true
+
+-- Whether step 4 took the header as a match.
+abbrev pub matched : Outcome → Bool
+matched FeeIdsFull = false
+matched BadOffset = false
+matched MemorySize = true
+matched NegativeSkip = false
+matched Passed = false
+matched HandedOut = true
+
+-- Whether step 5 hands the header out.
+abbrev pub handsOut : Outcome → Bool
+handsOut FeeIdsFull = false
+handsOut BadOffset = false
+handsOut MemorySize = false
+handsOut NegativeSkip = false
+handsOut Passed = false
+handsOut HandedOut = true

@@ -1,0 +1,5 @@
+pub mod Calls
+pub mod WriterSlot
+pub mod Loan
+pub mod One
+pub mod Two

@@ -1,0 +1,59 @@
+-- Laws of texts of counters: they are put one behind the other, and their length is the sum of the lengths.
+use Prim.Native.Nat.{ℕ, _+_, _≤_, _<_}
+use mathlib.Core.Path.{_≡_, refl, sym, ap, _∙_}
+use mathlib.Core.List.{List, [], _∷_, _++_, append-assoc, append-nil}
+use native.Mathlib.Numerals.{add-one}
+use native.Mathlib.Omega.{arith}
+use lib.ListN.{length, length-append, take}
+use lib.Seq.{take-suc}
+use Rattle.text.specs.Put.{Put}
+use Rattle.text.specs.PutLaws.{and-then, respelled}
+use Rattle.trigger_stats.specs.Counters.{Counter, counterAt, counters, orbit}
+use Rattle.trigger_texts.specs.CounterOrder.{inOrder}
+
+in-order-append : (text : Counter → List ℕ) (ks js : List Counter) → inOrder text (ks ++ js) ≡ inOrder text ks ++ inOrder text js
+unfolding inOrder
+in-order-append text [] js = refl
+in-order-append text (k ∷ ks) js =
+    ap (λ (t : List ℕ). text k ++ t) (in-order-append text ks js) ∙ sym (append-assoc (text k) (inOrder text ks) (inOrder text js))
+
+-- the texts of the counters before a place of the table, then that of the one at it
+pub next-one : {l m n : List ℕ} {i j e : ℕ} (text : Counter → List ℕ) (place : ℕ) → place < 20
+    → Put l i (inOrder text (take place counters)) m j → Put m j (text (counterAt place)) n e
+    → Put l i (inOrder text (take (place + 1) counters)) n e
+unfolding inOrder
+next-one text place below p q =
+    let last = text (counterAt place) in
+    let more : take (place + 1) counters ≡ take place counters ++ (counterAt place ∷ []) =
+    ap (λ (k : ℕ). take k counters) (add-one place) ∙ take-suc counters place orbit below in
+    respelled
+    (sym
+    (ap (λ (ks : List Counter). inOrder text ks) more
+    ∙ in-order-append text (take place counters) (counterAt place ∷ [])
+    ∙ ap (λ (t : List ℕ). inOrder text (take place counters) ++ t) (append-nil last)))
+    (and-then p q)
+
+-- ---- lengths
+
+-- The sum of some counters' numbers.
+unfoldable pub total : (Counter → ℕ) → List Counter → ℕ
+total n [] = 0
+total n (k ∷ ks) = n k + total n ks
+
+pub length-in-order : (text : Counter → List ℕ) (ks : List Counter) → length (inOrder text ks) ≡ total (λ k. length (text k)) ks
+unfolding inOrder total
+length-in-order text [] = refl
+length-in-order text (k ∷ ks) = omega (arith, length-in-order text ks, length-append (text k) (inOrder text ks))
+
+pub total-below : (m n : Counter → ℕ) → ((k : Counter) → m k ≤ n k) → (ks : List Counter) → total m ks ≤ total n ks
+unfolding total
+total-below m n below [] = omega arith
+total-below m n below (k ∷ ks) = omega (arith, below k, total-below m n below ks)
+
+pub total-same : (m n : Counter → ℕ) → ((k : Counter) → m k ≡ n k) → (ks : List Counter) → total m ks ≡ total n ks
+total-same m n e ks = λ i. total (λ k. e k i) ks
+
+pub total-add : (m n : Counter → ℕ) (ks : List Counter) → total (λ k. m k + n k) ks ≡ total m ks + total n ks
+unfolding total
+total-add m n [] = refl
+total-add m n (k ∷ ks) = omega (arith, total-add m n ks)
