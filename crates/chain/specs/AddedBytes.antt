@@ -55,8 +55,8 @@ pub record WasCut (e e′ : Entry (List ℕ)) : Type 0 where
   pub position : Position
   pub payload : List ℕ
   pub cut-off : e .marks .«payload_cut» ≡ true
-  pub empty : e .answer ≡ gives (handed header [] position)
-  pub longer : e′ .answer ≡ gives (handed header payload position)
+  pub empty : e .answer ≡ gives (handed (record { header = header; payload = []; position = position }))
+  pub longer : e′ .answer ≡ gives (handed (record { header = header; payload = payload; position = position }))
   pub whole : e′ .marks .«payload_cut» ≡ false → length payload ≡ payloadSize header
   pub still-cut : e′ .marks .«payload_cut» ≡ true → payload ≡ []
   pub initial : e′ .marks .initial ≡ e .marks .initial
@@ -117,7 +117,7 @@ cut-entries set HandedOut s feeIds h rest rest′ end end′ e =
       position = from;
       payload = payloadOf skip HandedOut h rest′;
       cut-off = e;
-      empty = ap (λ (l : List ℕ). gives (handed h l from)) (cut-empty skip HandedOut h rest e);
+      empty = ap (λ (l : List ℕ). gives (handed (record { header = h; payload = l; position = from }))) (cut-empty skip HandedOut h rest e);
       longer = refl;
       whole = whole-size skip h rest′ (cut-reads skip h (length rest) e);
       still-cut = cut-empty skip HandedOut h rest′;

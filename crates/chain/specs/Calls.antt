@@ -7,9 +7,9 @@ use lib.Dec.{ltb}
 use lib.ListN.{length, take, drop}
 use Rattle.basis.specs.Pick.{pick}
 use Rattle.basis.specs.Refusals.{Answer, gives, refuses}
-use Rattle.scan_cdp.specs.Answers.{Found, handed, passed, wants}
+use Rattle.scan_cdp.specs.Answers.{Found, answerAs, handed, passed, wants}
 use Rattle.scan_cdp.specs.Loads.{Loaded, isPassed, loaded, noLoadMarks, replied, together}
-use Rattle.scan_cdp.specs.Steps.{Entry, unchanged, unusable}
+use Rattle.scan_cdp.specs.Steps.{Entry, entryAs, unchanged, unusable}
 use Rattle.scan_cdp.specs.Outcomes.{payloadSize}
 use Rattle.scan_cdp.specs.Windows.{bytesAt, examined, outside, shown}
 use Rattle.scan_cdp.specs.declared.LoadMarks.{LoadMarks}
@@ -54,13 +54,10 @@ pub data Reply : Type 0 where
   load : Loaded (List ℕ) → Reply
 
 abbrev pub readFrom : List ℕ → Answer (Found Part) → Answer (Found (List ℕ))
-readFrom w (gives passed) = gives passed
-readFrom w (gives (handed h part position)) = gives (handed h (bytesAt w part) position)
-readFrom w (gives (wants place size)) = gives (wants place size)
-readFrom w (refuses number values) = refuses number values
+readFrom w = answerAs (bytesAt w)
 
 abbrev pub entryRead : List ℕ → Entry Part → Entry (List ℕ)
-entryRead w e = record { answer = readFrom w (e .answer); marks = e .marks; state = e .state; feeIds = e .feeIds }
+entryRead w = entryAs (bytesAt w)
 
 abbrev pub loadRead : List ℕ → Loaded Part → Loaded (List ℕ)
 loadRead w r = record { answer = readFrom w (r .answer); marks = r .marks; state = r .state; feeIds = r .feeIds }
@@ -97,7 +94,7 @@ pub data Hold : Type 0 where
 -- The bytes that an entry needs from the byte place on (W7): 64, and the payload's where a header is handed out with its payload read.
 abbrev pub needed : Bool → Answer (Found (List ℕ)) → ℕ
 needed skip (gives passed) = 64
-needed skip (gives (handed h payload position)) = pick skip 64 (64 + payloadSize h)
+needed skip (gives (handed p)) = pick skip 64 (64 + payloadSize (p .header))
 needed skip (gives (wants place size)) = 64
 needed skip (refuses number values) = 64
 

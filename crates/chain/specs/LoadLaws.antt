@@ -128,7 +128,7 @@ together-none ms =
 
 passed-read : (w : List ℕ) (a : Answer (Found Part)) → isPassed (readFrom w a) ≡ isPassed a
 passed-read w (gives passed) = refl
-passed-read w (gives (handed h part position)) = refl
+passed-read w (gives (handed p)) = refl
 passed-read w (gives (wants place size)) = refl
 passed-read w (refuses number values) = refl
 

@@ -13,7 +13,7 @@ use Rattle.basis.specs.Refusals.{Answer, gives, refuses}
 use Rattle.filter.specs.Filter.{matches, targetOf}
 use Rattle.rdh.specs.declared.rdh_cru.RdhCru.{RdhCru}
 use Rattle.serde_rdh.specs.Layout.{decoded}
-use Rattle.scan_cdp.specs.Answers.{Found, handed, passed, wants}
+use Rattle.scan_cdp.specs.Answers.{Found, Handed, handed, passed, wants}
 use Rattle.scan_cdp.specs.Loads.{isPassed, noLoadMarks, replied, together}
 use Rattle.scan_cdp.specs.Steps.{Entry, answerIn, ended, entryOf, payloadOf, startOf, step, outcomeIn, unchanged, unusable}
 use Rattle.scan_cdp.specs.Outcomes.{badOffset, feeId, filtered, memorySize, offset, skipped, outcomeOf}
@@ -31,16 +31,14 @@ use Rattle.chain.specs.ChainLaws.{placeOf}
 use Rattle.chain.specs.CallsFollow.{calls-follow}
 use Rattle.chain.specs.Following.{cutInto, leftOver}
 
--- A packet as it is handed out.
-pub record Packet : Type 0 where
-  pub header : RdhCru
-  pub payload : List ℕ
-  pub position : Position
+-- A packet as the chain hands it out.
+abbrev pub Packet : Type 0
+Packet = Handed (List ℕ)
 
 -- The packet that an answer hands out, if any.
 abbrev pub packetIn : Answer (Found (List ℕ)) → List Packet
 packetIn (gives passed) = []
-packetIn (gives (handed h payload position)) = record { header = h; payload = payload; position = position } ∷ []
+packetIn (gives (handed p)) = p ∷ []
 packetIn (gives (wants place size)) = []
 packetIn (refuses number values) = []
 
@@ -120,7 +118,7 @@ quiet set k w e =
 
 passed-none : (a : Answer (Found (List ℕ))) → isPassed a ≡ true → packetIn a ≡ []
 passed-none (gives passed) e = refl
-passed-none (gives (handed h payload position)) e = absurd (false≢true e)
+passed-none (gives (handed p)) e = absurd (false≢true e)
 passed-none (gives (wants place size)) e = absurd (false≢true e)
 passed-none (refuses number values) e = absurd (false≢true e)
 
@@ -219,7 +217,7 @@ chosen-here set k h = outcome-chosen set _ _ h
 -- what an answer says of the header at the place
 abbrev Tells : Settings → RdhCru → Answer (Found (List ℕ)) → Type 0
 Tells set h (gives passed) = isMatch set h ≡ false
-Tells set h (gives (handed g payload position)) = (g ≡ h) × (isMatch set h ≡ true)
+Tells set h (gives (handed p)) = (p .header ≡ h) × (isMatch set h ≡ true)
 Tells set h (gives (wants place size)) = ⊥
 Tells set h (refuses number values) = Unit {0}
 
@@ -251,7 +249,7 @@ next-tells recording set k =
 headers-told : (set : Settings) (h : RdhCru) (a : Answer (Found (List ℕ))) (ps : List Packet) → Tells set h a
     → headersOf (packetIn a ++ ps) ≡ pick (not (isRefused a) && isMatch set h) (h ∷ headersOf ps) (headersOf ps)
 headers-told set h (gives passed) ps other = sym (off _ _ other)
-headers-told set h (gives (handed g payload position)) ps (same, taken) =
+headers-told set h (gives (handed p)) ps (same, taken) =
     ap (λ (x : RdhCru). x ∷ headersOf ps) same ∙ sym (on _ _ taken)
 headers-told set h (gives (wants place size)) ps told = absurd told
 headers-told set h (refuses number values) ps told = refl

@@ -52,7 +52,7 @@ entryAnswers [] = []
 entryAnswers (e ∷ es) = e .answer ∷ entryAnswers es
 
 abbrev packet : ℕ → ℕ → Answer (Found (List ℕ))
-packet feeId position = gives (handed (decoded (sample feeId 64 0 0x4813)) [] (record { 0 = position }))
+packet feeId position = gives (handed (record { header = decoded (sample feeId 64 0 0x4813); payload = []; position = record { 0 = position } }))
 
 -- A want, the two packets, and the end.
 pub calls-answer : answers (replies plain start calls)

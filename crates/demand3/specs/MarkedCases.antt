@@ -59,7 +59,7 @@ pub data Case : Type 0 where
 
 -- A packet with no payload, at position 0.
 abbrev given : ℕ → Answer (Found (List ℕ))
-given n = gives (handed (decoded (sample 0x502A n 0 0x4813)) [] (record { 0 = 0 }))
+given n = gives (handed (record { header = decoded (sample 0x502A n 0 0x4813); payload = []; position = record { 0 = 0 } }))
 
 pub marked : List Case
 marked =

@@ -50,6 +50,6 @@ pub known-kind : (why : Stopped) → Known why → kindWant ≤ plainStop why .k
 known-kind full known = omega arith
 known-kind (tooShort needed) known = omega arith
 known-kind (answered (gives passed)) known = absurd (false≢true (sym (known .1)))
-known-kind (answered (gives (handed h payload position))) known = absurd (false≢true (sym (known .0)))
+known-kind (answered (gives (handed p))) known = absurd (false≢true (sym (known .0)))
 known-kind (answered (gives (wants place size))) known = omega arith
 known-kind (answered (refuses number values)) known = omega arith

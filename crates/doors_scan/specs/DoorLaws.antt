@@ -67,7 +67,7 @@ module _ (a : Examined) (writable : Writable a) (header : List ℕ) (long : 64 �
 -- The kind of an answer but passed is that of a packet, of a want or of a refusal ..
 found-kind : (a : Answer (Found Part)) → isPassed a ≡ false → kindPacket ≤ plainAnswer a .kind
 found-kind (gives passed) e = absurd (true≢false e)
-found-kind (gives (handed h payload position)) e = omega arith
+found-kind (gives (handed p)) e = omega arith
 found-kind (gives (wants place size)) e = omega arith
 found-kind (refuses number values) e = omega arith
 

@@ -64,7 +64,7 @@ secondOf (v ∷ vs) = firstOf vs
 -- C's struct for an answer: its kind, and what that kind has; all else is 0.
 abbrev pub plainAnswer : Answer (Found Part) → PlainAnswer
 plainAnswer (gives passed) = answerWith kindPassed 0 0 0 0 0 0 (pos 0)
-plainAnswer (gives (handed h payload position)) = answerWith kindPacket (position .0) 0 0 (payload .start) (payload .length) 0 (pos 0)
+plainAnswer (gives (handed p)) = answerWith kindPacket (p .position .0) 0 0 (p .payload .start) (p .payload .length) 0 (pos 0)
 plainAnswer (gives (wants place size)) = answerWith kindWant 0 (place .0) size 0 0 0 (pos 0)
 plainAnswer (refuses number values) = refusedWith number (firstOf values) (natAbs (secondOf values))
 
@@ -117,6 +117,6 @@ replyOf a m p = record { answer = plainAnswer a; marks = plainMarks m; state = p
 -- The header of a packet is written; any other answer leaves what was there.
 abbrev pub headerLeft : Answer (Found Part) → List ℕ → List ℕ
 headerLeft (gives passed) bytes = bytes
-headerLeft (gives (handed h payload position)) bytes = encodedInto h bytes
+headerLeft (gives (handed p)) bytes = encodedInto (p .header) bytes
 headerLeft (gives (wants place size)) bytes = bytes
 headerLeft (refuses number values) bytes = bytes

@@ -49,7 +49,11 @@ abbrev pub readAnswer : PlainAnswer → List ℕ → Answer (Found Part)
 readAnswer n header =
     pick (eqb (n .kind) kindPassed) (gives passed)
     (pick (eqb (n .kind) kindPacket)
-    (gives (handed (decoded header) (record { start = n .«payload_start»; length = n .«payload_length» }) (record { 0 = n .position })))
+    (gives (handed (record {
+      header = decoded header;
+      payload = record { start = n .«payload_start»; length = n .«payload_length» };
+      position = record { 0 = n .position };
+    })))
     (pick (eqb (n .kind) kindWant) (gives (wants (record { 0 = n .«want_place» }) (n .«want_size»)))
     (refuses (n .refusal) (valuesIn n))))
 
@@ -78,7 +82,7 @@ pub answer-again : (a : Examined) (bytes : List ℕ) → Writable a → 64 ≤ l
     → readAnswer (plainAnswer (examinedAnswer a)) (headerLeft (examinedAnswer a) bytes) ≡ examinedAnswer a
 answer-again Passed bytes fits long = refl
 answer-again (Answered (Loads.Packet packet)) bytes fits long =
-    ap (λ (h : RdhCru). gives (handed h (packet .payload) (packet .position))) (header-again (packet .rdh) bytes fits long)
+    ap (λ (h : RdhCru). gives (handed (record { header = h; payload = packet .payload; position = packet .position }))) (header-again (packet .rdh) bytes fits long)
 answer-again (Answered (Loads.Want place size)) bytes fits long = refl
 answer-again (Answered (Loads.Refused why)) bytes fits long = refusal-again why _
 

@@ -39,7 +39,7 @@ pub record Batched : Type 0 where
 -- Whether a packet is handed out, so that the listing goes on.
 abbrev pub isPacket : Answer (Found Part) → Bool
 isPacket (gives passed) = false
-isPacket (gives (handed h payload position)) = true
+isPacket (gives (handed p)) = true
 isPacket (gives (wants place size)) = false
 isPacket (refuses number values) = false
 

@@ -20,21 +20,21 @@ use Rattle.listing_load.specs.declared.Listed.{Listed}
 -- The lines of what a load answered: a packet's, or the last ones with the counts as they stand after the refusal. A want has none.
 abbrev pub linesOf : RdhCruSanityValidator → Answer (Found Part) → Loaded Part → List ℕ
 linesOf v (gives passed) l = []
-linesOf v (gives (handed h payload position)) l = packetLines v (position .0) h
+linesOf v (gives (handed p)) l = packetLines v (p .position .0) (p .header)
 linesOf v (gives (wants place size)) l = []
 linesOf v (refuses number values) l = lastLines (l .state .progress .counts) number
 
 -- The validator after it: every packet is checked, and nothing else (P3).
 abbrev pub validatorOf : RdhCruSanityValidator → Answer (Found Part) → RdhCruSanityValidator
 validatorOf v (gives passed) = v
-validatorOf v (gives (handed h payload position)) = settledBy v h
+validatorOf v (gives (handed p)) = settledBy v (p .header)
 validatorOf v (gives (wants place size)) = v
 validatorOf v (refuses number values) = v
 
 -- Whether it is a packet that is not sound to the validator.
 abbrev pub unsoundIn : RdhCruSanityValidator → Answer (Found Part) → Bool
 unsoundIn v (gives passed) = false
-unsoundIn v (gives (handed h payload position)) = not (soundTo v h)
+unsoundIn v (gives (handed p)) = not (soundTo v (p .header))
 unsoundIn v (gives (wants place size)) = false
 unsoundIn v (refuses number values) = false
 

@@ -6,6 +6,7 @@ use Rattle.basis.specs.Refusals.{Answer, gives, refuses}
 use Rattle.rdh.specs.declared.rdh_cru.RdhCru.{RdhCru}
 use Rattle.scan_cdp.specs.declared.BytePlace.{BytePlace}
 use Rattle.scan_cdp.specs.declared.Position.{Position}
+use Rattle.scan_cdp.specs.declared.Packet.{Packet}
 use Rattle.scan_cdp.specs.declared.Part.{Part}
 use Rattle.scan_cdp.specs.declared.Refusal.{Refusal}
 use Rattle.scan_cdp.specs.declared.Refusal.the-variants.{End, OffsetToNext, MemorySize, FeeIdsFull, NegativeSkip, Unusable}
@@ -14,12 +15,29 @@ use Rattle.scan_cdp.specs.declared.LoadCdp.the-variants as Loads
 use Rattle.scan_cdp.specs.declared.Examined.{Examined}
 use Rattle.scan_cdp.specs.declared.Examined.the-variants.{Passed, Answered}
 
--- What is found at a byte place: a header that is passed; one that is handed out, with its payload and the position of its load's start;
--- or, on a window, a want for so many bytes from a byte place on. On the chain a payload is bytes, in a reply it is a part of the window.
+-- What is handed out (S5): a header, its payload, and the position at which its load started. On the chain a payload is bytes, in a reply it
+-- is a part of the window.
+pub record Handed (P : Type 0) : Type 0 where
+  pub header : RdhCru
+  pub payload : P
+  pub position : Position
+
+-- What is found at a byte place: a header that is passed; one that is handed out; or, on a window, a want for so many bytes from a byte
+-- place on.
 pub data Found (P : Type 0) : Type 0 where
   passed : Found P
-  handed : (header : RdhCru) → (payload : P) → (position : Position) → Found P
+  handed : Handed P → Found P
   wants : (place : BytePlace) → (size : ℕ) → Found P
+
+-- What is handed out, or answered, with the payload said in another way.
+abbrev pub handedAs : {P Q : Type 0} → (P → Q) → Handed P → Handed Q
+handedAs f p = record { header = p .header; payload = f (p .payload); position = p .position }
+
+abbrev pub answerAs : {P Q : Type 0} → (P → Q) → Answer (Found P) → Answer (Found Q)
+answerAs f (gives passed) = gives passed
+answerAs f (gives (handed p)) = gives (handed (handedAs f p))
+answerAs f (gives (wants place size)) = gives (wants place size)
+answerAs f (refuses number values) = refuses number values
 
 -- The number and the values of each refusal.
 abbrev pub refusal : {A : Type 0} → Refusal → Answer A
@@ -30,9 +48,13 @@ refusal FeeIdsFull = refuses 4 []
 refusal NegativeSkip = refuses 5 []
 refusal Unusable = refuses 6 []
 
+-- The code's packet.
+abbrev pub handedBy : Packet → Handed Part
+handedBy packet = record { header = packet .rdh; payload = packet .payload; position = packet .position }
+
 -- What a load answers.
 abbrev pub loadAnswer : LoadCdp → Answer (Found Part)
-loadAnswer (Loads.Packet packet) = gives (handed (packet .rdh) (packet .payload) (packet .position))
+loadAnswer (Loads.Packet packet) = gives (handed (handedBy packet))
 loadAnswer (Loads.Want place size) = gives (wants place size)
 loadAnswer (Loads.Refused r) = refusal r
 

@@ -46,7 +46,7 @@ together ms m =
 -- Whether a header was passed, so that the load goes on.
 abbrev pub isPassed : {P : Type 0} → Answer (Found P) → Bool
 isPassed (gives passed) = true
-isPassed (gives (handed h payload position)) = false
+isPassed (gives (handed p)) = false
 isPassed (gives (wants place size)) = false
 isPassed (refuses number values) = false
 

@@ -15,7 +15,7 @@ use Rattle.serde_rdh.specs.Layout.{decoded}
 use Rattle.stats.specs.Counts.{added, fullCount}
 use Rattle.stats.specs.Lists.{full, placesAfter, twice, usedAfter}
 use Rattle.stats.specs.declared.Count.{Count}
-use Rattle.scan_cdp.specs.Answers.{Found, handed, passed}
+use Rattle.scan_cdp.specs.Answers.{Found, answerAs, handed, passed}
 use Rattle.scan_cdp.specs.Outcomes.{isCounted, feeId, handsOut, matched, memorySize, offset, payloadSize, outcomeOf}
 use Rattle.scan_cdp.specs.declared.BytePlace.{BytePlace}
 use Rattle.scan_cdp.specs.declared.Position.{Position}
@@ -38,6 +38,10 @@ pub record Entry (P : Type 0) : Type 0 where
   pub marks : Marks
   pub state : State
   pub feeIds : List ℕ
+
+-- An entry with the payload said in another way.
+abbrev pub entryAs : {P Q : Type 0} → (P → Q) → Entry P → Entry Q
+entryAs f e = record { answer = answerAs f (e .answer); marks = e .marks; state = e .state; feeIds = e .feeIds }
 
 -- The state of a scan that has not begun (W1): at byte place and position 0, with nothing counted or listed.
 abbrev pub newState : State
@@ -173,7 +177,7 @@ answerIn BadOffset h payload start position = refuses 2 (subℕ (offset h) 64 �
 answerIn MemorySize h payload start position = refuses 3 []
 answerIn NegativeSkip h payload start position = refuses 5 []
 answerIn Passed h payload start position = gives passed
-answerIn HandedOut h payload start position = gives (handed h payload start)
+answerIn HandedOut h payload start position = gives (handed (record { header = h; payload = payload; position = start }))
 
 -- The payload's bytes behind the header; none where it is skipped or cut (S6).
 unfoldable pub payloadOf : Bool → Outcome → RdhCru → List ℕ → List ℕ

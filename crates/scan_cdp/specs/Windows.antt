@@ -7,8 +7,8 @@ use lib.ListN.{length, take, drop}
 use Rattle.basis.specs.Pick.{pick}
 use Rattle.basis.specs.Refusals.{Answer, gives, refuses}
 use Rattle.serde_rdh.specs.Layout.{decoded}
-use Rattle.scan_cdp.specs.Answers.{Found, handed, passed, wants}
-use Rattle.scan_cdp.specs.Steps.{Entry, limit, step, unchanged, unusable}
+use Rattle.scan_cdp.specs.Answers.{Found, answerAs, wants}
+use Rattle.scan_cdp.specs.Steps.{Entry, entryAs, limit, step, unchanged, unusable}
 use Rattle.scan_cdp.specs.Outcomes.{payloadSize}
 use Rattle.scan_cdp.specs.declared.BytePlace.{BytePlace}
 use Rattle.scan_cdp.specs.declared.Part.{Part}
@@ -33,13 +33,10 @@ bytesAt w part = take (part .length) (drop (part .start) w)
 
 -- An answer whose payload is said as the part of the window that it is.
 abbrev pub placed : ℕ → Answer (Found (List ℕ)) → Answer (Found Part)
-placed start (gives passed) = gives passed
-placed start (gives (handed h payload position)) = gives (handed h (partAt start (length payload)) position)
-placed start (gives (wants place size)) = gives (wants place size)
-placed start (refuses number values) = refuses number values
+placed start = answerAs (λ (payload : List ℕ). partAt start (length payload))
 
 abbrev pub located : ℕ → Entry (List ℕ) → Entry Part
-located start e = record { answer = placed start (e .answer); marks = e .marks; state = e .state; feeIds = e .feeIds }
+located start = entryAs (λ (payload : List ℕ). partAt start (length payload))
 
 -- An examination: refusal 6; on a window that is not last a want, for the header or for its payload where the step would find it cut, which
 -- changes nothing (W6, W7); and else the step.

@@ -24,7 +24,7 @@ closes answer = isRefusal 1 answer || isRefusal 6 answer
 -- Whether an answer is a want.
 abbrev pub isWant : {P : Type 0} → Answer (Found P) → Bool
 isWant (gives passed) = false
-isWant (gives (handed h payload position)) = false
+isWant (gives (handed p)) = false
 isWant (gives (wants place size)) = true
 isWant (refuses number values) = false
 
