@@ -16,7 +16,7 @@ use Rattle.stats.specs.Counts.{fullCount}
 use Rattle.stats.specs.Lists.{twice}
 use Rattle.scan_cdp.specs.Answers.{Found, handed}
 use Rattle.scan_cdp.specs.Moves.{readSize}
-use Rattle.scan_cdp.specs.Steps.{Entry, answerIn, cut, entryOf, ended, limit, marksOf, payloadOf, placeAfter, progressAfter, startOf, step, outcomeIn, unchanged, unusable}
+use Rattle.scan_cdp.specs.Steps.{Entry, answerIn, cut, entryOf, ended, limit, marksOf, payloadOf, placeAfter, progressAfter, startOf, step, outcomeIn, unchanged, unusable, withPlace}
 use Rattle.scan_cdp.specs.Outcomes.{memorySize, offset, payloadSize}
 use Rattle.scan_cdp.specs.Windows.{shown}
 use Rattle.scan_cdp.specs.declared.Position.{Position}
@@ -35,18 +35,7 @@ use Rattle.chain.specs.WindowOfLaws.{same-header, shown-fits}
 
 -- The state but for its byte place, which for a payload that was cut is the shorter recording's end.
 abbrev pub exceptPlace : State → State
-exceptPlace s =
-    record {
-      progress = record {
-        place = record { 0 = 0 };
-        position = s .progress .position;
-        load = s .progress .load;
-        counts = s .progress .counts;
-        «links_used» = s .progress .«links_used»;
-        «fee_ids_used» = s .progress .«fee_ids_used»;
-      };
-      links = s .links;
-    }
+exceptPlace = withPlace 0
 
 -- An entry of the shorter recording whose payload was cut, and the entry at the same header of the longer one: the header, the position,
 -- the marks but E100, the counts and the lists are the same (D3.6). The payload is whole now, or cut again.

@@ -10,13 +10,12 @@ use lib.Dec.{ltb}
 use lib.ListN.{length, drop}
 use Rattle.basis.specs.Pick.{by-test, off, on, pick}
 use Rattle.basis.specs.Refusals.{Answer, gives, refuses}
-use Rattle.filter.specs.Filter.{matches, targetOf}
 use Rattle.rdh.specs.declared.rdh_cru.RdhCru.{RdhCru}
 use Rattle.serde_rdh.specs.Layout.{decoded}
 use Rattle.scan_cdp.specs.Answers.{Found, Handed, handed, passed, wants}
 use Rattle.scan_cdp.specs.Loads.{isPassed, noLoadMarks, replied, together}
 use Rattle.scan_cdp.specs.Steps.{Entry, answerIn, ended, entryOf, payloadOf, startOf, step, outcomeIn, unchanged, unusable}
-use Rattle.scan_cdp.specs.Outcomes.{badOffset, feeId, filtered, memorySize, offset, skipped, outcomeOf}
+use Rattle.scan_cdp.specs.Outcomes.{badOffset, filtered, isMatch, memorySize, offset, skipped, outcomeOf}
 use Rattle.scan_cdp.specs.Windows.{outside, shown}
 use Rattle.scan_cdp.specs.declared.LoadMarks.{LoadMarks}
 use Rattle.scan_cdp.specs.declared.Position.{Position}
@@ -60,10 +59,6 @@ EachOnce =
 -- The header at the byte place of a reader.
 abbrev pub headerAt : List ℕ → Kept → RdhCru
 headerAt recording k = decoded (drop (placeOf k) recording)
-
--- Whether a header matches the filter.
-abbrev pub isMatch : Settings → RdhCru → Bool
-isMatch set h = matches (targetOf (set .filter)) (h .«link_id») (feeId h)
 
 -- The headers on the chain that match the filter and are not refused, in order.
 unfoldable pub matching : List ℕ → Settings → Kept → List (Entry (List ℕ)) → List RdhCru

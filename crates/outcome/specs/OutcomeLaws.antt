@@ -4,9 +4,8 @@ use mathlib.Core.Path.{_≡_, refl, _∙_}
 use Prim.Native.Nat.{_<_, _≤_}
 use borrow.Author.Tests.{lt-ltb, le-ltb}
 use Rattle.basis.specs.Pick.{on, off, pick}
-use Rattle.filter.specs.Filter.{matches, targetOf}
 use Rattle.rdh.specs.declared.rdh_cru.RdhCru.{RdhCru}
-use Rattle.scan_cdp.specs.Outcomes.{badOffset, feeId, filtered, memorySize, offset, skipped, outcomeOf}
+use Rattle.scan_cdp.specs.Outcomes.{badOffset, filtered, isMatch, memorySize, offset, skipped, outcomeOf}
 use Rattle.scan_cdp.specs.declared.Settings.{Settings}
 use Rattle.scan_cdp.specs.declared.Outcome.the-variants.{FeeIdsFull, BadOffset, HandedOut, MemorySize, Passed}
 
@@ -29,22 +28,18 @@ tests-in-a-row set first full h = in-a-row first full (badOffset (offset h)) Fee
 -- ---- what the filter and the memory size make of a header
 
 module _ (set : Settings) (h : RdhCru) where
-  -- whether the header matches the filter
-  abbrev pub taken : Bool
-  taken = matches (targetOf (set .filter)) (h .«link_id») (feeId h)
-
-  pub mismatch : taken ≡ false → filtered set h ≡ skipped (offset h) Passed
+  pub mismatch : isMatch set h ≡ false → filtered set h ≡ skipped (offset h) Passed
   unfolding filtered
   mismatch e = off _ _ e
 
-  pub no-payload : taken ≡ true → memorySize h < 64 → filtered set h ≡ MemorySize
+  pub no-payload : isMatch set h ≡ true → memorySize h < 64 → filtered set h ≡ MemorySize
   unfolding filtered
   no-payload e small = on _ _ e ∙ on _ _ (lt-ltb (memorySize h) 64 small)
 
-  pub skipping : taken ≡ true → 64 ≤ memorySize h → set .«skip_payload» ≡ true → filtered set h ≡ skipped (offset h) HandedOut
+  pub skipping : isMatch set h ≡ true → 64 ≤ memorySize h → set .«skip_payload» ≡ true → filtered set h ≡ skipped (offset h) HandedOut
   unfolding filtered
   skipping e large skip = on _ _ e ∙ off _ _ (le-ltb (memorySize h) 64 large) ∙ on _ _ skip
 
-  pub reading : taken ≡ true → 64 ≤ memorySize h → set .«skip_payload» ≡ false → filtered set h ≡ HandedOut
+  pub reading : isMatch set h ≡ true → 64 ≤ memorySize h → set .«skip_payload» ≡ false → filtered set h ≡ HandedOut
   unfolding filtered
   reading e large read = on _ _ e ∙ off _ _ (le-ltb (memorySize h) 64 large) ∙ off _ _ read

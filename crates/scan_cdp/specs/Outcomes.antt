@@ -23,6 +23,10 @@ feeId h = h .rdh0 .«fee_id» .0
 abbrev pub payloadSize : RdhCru → ℕ
 payloadSize h = memorySize h - 64
 
+-- Whether a header matches the filter (T3, S3).
+abbrev pub isMatch : Settings → RdhCru → Bool
+isMatch set h = matches (targetOf (set .filter)) (h .«link_id») (feeId h)
+
 -- Whether an offset is outside 64 to 10,064 (R2).
 abbrev pub badOffset : ℕ → Bool
 badOffset n = ltb n 64 || ltb 10064 n
@@ -35,7 +39,7 @@ skipped n t = pick (ltb n 64) NegativeSkip t
 -- unless its payload is read.
 unfoldable pub filtered : Settings → RdhCru → Outcome
 filtered set h =
-    pick (matches (targetOf (set .filter)) (h .«link_id») (feeId h))
+    pick (isMatch set h)
     (pick (ltb (memorySize h) 64) MemorySize (pick (set .«skip_payload») (skipped (offset h) HandedOut) HandedOut))
     (skipped (offset h) Passed)
 

@@ -58,6 +58,36 @@ newState =
       links = replicate 256 0;
     }
 
+-- The state at another byte place, with all else as it was.
+abbrev pub withPlace : ℕ → State → State
+withPlace place s =
+    record {
+      progress = record {
+        place = record { 0 = place };
+        position = s .progress .position;
+        load = s .progress .load;
+        counts = s .progress .counts;
+        «links_used» = s .progress .«links_used»;
+        «fee_ids_used» = s .progress .«fee_ids_used»;
+      };
+      links = s .links;
+    }
+
+-- The state with no load open (S7).
+abbrev pub closed : State → State
+closed s =
+    record {
+      progress = record {
+        place = s .progress .place;
+        position = s .progress .position;
+        load = Load.None;
+        counts = s .progress .counts;
+        «links_used» = s .progress .«links_used»;
+        «fee_ids_used» = s .progress .«fee_ids_used»;
+      };
+      links = s .links;
+    }
+
 -- ---- step 1
 
 -- No place, position or window end is above it (R6).
@@ -86,17 +116,7 @@ ended s feeIds end =
     record {
       answer = refuses 1 [];
       marks = noMarks;
-      state = record {
-        progress = record {
-          place = record { 0 = max (s .progress .place .0) end };
-          position = s .progress .position;
-          load = Load.None;
-          counts = s .progress .counts;
-          «links_used» = s .progress .«links_used»;
-          «fee_ids_used» = s .progress .«fee_ids_used»;
-        };
-        links = s .links;
-      };
+      state = withPlace (max (s .progress .place .0) end) (closed s);
       feeIds = feeIds;
     }
 

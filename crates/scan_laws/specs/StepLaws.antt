@@ -9,7 +9,6 @@ use lib.Dec.{ltb}
 use lib.ListN.{length, take, length-drop}
 use Rattle.basis.specs.Pick.{by-test, neither, off, on, pick}
 use Rattle.basis.specs.Refusals.{Answer, gives, refuses}
-use Rattle.filter.specs.Filter.{matches, targetOf}
 use Rattle.rdh.specs.declared.rdh_cru.RdhCru.{RdhCru}
 use Rattle.serde_rdh.specs.Layout.{decoded}
 use Rattle.stats.specs.Counts.{fullCount}
@@ -20,7 +19,7 @@ use Rattle.scan_cdp.specs.Loads.{isPassed}
 use Rattle.scan_laws.specs.Runs.{closes, isRefusal, isWant}
 use Rattle.scan_cdp.specs.Steps.{Entry, answerIn, cut, ended, entryOf, limit, noMarks, placeAfter, placesListed, progressAfter}
 use Rattle.scan_cdp.specs.Steps.{step, outcomeIn, unchanged, unusable, usedListed}
-use Rattle.scan_cdp.specs.Outcomes.{badOffset, feeId, filtered, memorySize, offset, payloadSize, skipped, outcomeOf}
+use Rattle.scan_cdp.specs.Outcomes.{badOffset, feeId, filtered, isMatch, memorySize, offset, payloadSize, skipped, outcomeOf}
 use Rattle.scan_cdp.specs.Windows.{examined, located, outside, placed, shown}
 use Rattle.scan_cdp.specs.declared.Part.{Part}
 use Rattle.scan_cdp.specs.declared.Position.{Position}
@@ -58,7 +57,7 @@ skipped-known h t good k =
 filtered-known : (set : Settings) (h : RdhCru) → GoodOffset h → Known h (filtered set h)
 unfolding filtered
 filtered-known set h good =
-    by-test (Known h) (matches (targetOf (set .filter)) (h .«link_id») (feeId h)) _ _
+    by-test (Known h) (isMatch set h) _ _
     (λ taken.
     by-test (Known h) (ltb (memorySize h) 64) _ _ (λ small. good) (λ large.
     let both : GoodOffset h × 64 ≤ memorySize h = (good, ltb-false (memorySize h) 64 large) in
