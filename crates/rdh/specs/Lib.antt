@@ -1,1 +1,2 @@
 pub mod Subfields
+pub mod PayloadSize

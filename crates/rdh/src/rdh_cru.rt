@@ -1,5 +1,6 @@
 // The whole header as the common readout unit (CRU) writes it: 64 bytes.
 ghost use mathlib.Core.Path.{_≡_};
+ghost use Rattle.rdh.specs.PayloadSize.{payloadSize};
 ghost use Rattle.rdh.specs.Subfields.{cruIdOf, dataFormatOf, dwOf};
 use crate::rdh0::Rdh0;
 use crate::rdh1::Rdh1;
@@ -8,6 +9,9 @@ use crate::rdh3::Rdh3;
 
 // The length of a header.
 pub const RDH_CRU_SIZE_BYTES: usize = 64;
+
+// The same in the width of an offset and of a memory size, of which it is the least.
+pub const RDH_SIZE: u16 = RDH_CRU_SIZE_BYTES as u16;
 
 // The number of the common readout unit, 12 bits, and of its data wrapper (dw), 4 bits above it.
 pub struct CruidDw(pub u16);
@@ -47,5 +51,14 @@ impl RdhCru {
         ensures { λ r. ⌜ r ≡ dataFormatOf (self .«dataformat_reserved0» .0) ⌝ }
     {
         (self.dataformat_reserved0.0 % 256) as u8
+    }
+    // The length of the payload behind the header. A memory size below a header's length, which no packet has, has none.
+    pub fn payload_size(self) -> u16
+        ensures { λ r. ⌜ r ≡ payloadSize self ⌝ }
+    {
+        if self.memory_size < RDH_SIZE {
+            return 0;
+        }
+        self.memory_size - RDH_SIZE
     }
 }
