@@ -51,7 +51,7 @@ pub fn slide(buffer: &mut [u8], held: Held, place: BytePlace) -> Held
     ensures { λ r. ⌜ r ≡ heldFrom (now (buffer .entry)) held (place .0) ⌝ }
     ensures { λ r. ⌜ now (buffer .exit) ≡ slid (now (buffer .entry)) held (place .0) ⌝ }
 {
-    let length = least(held.length, buffer.len());
+    let length = numbers::least(held.length, buffer.len());
     let distance = distance(held.first, place, length);
     let kept = length - distance;
     let mut i = 0;
@@ -158,10 +158,4 @@ fn fill(fd: i32, buffer: &mut [u8], held: Held, size: u64) -> Refilled
         length,
         last: false,
     })
-}
-
-fn least(a: usize, b: usize) -> usize
-    ensures { λ r. ⌜ r ≡ min a b ⌝ }
-{
-    if a < b { a } else { b }
 }

@@ -1,6 +1,5 @@
 // The counts and lists of a scan, as the Rust's `Stats` keeps them.
 ghost use mathlib.Core.Path.{_≡_};
-ghost use Prim.Native.Nat.{min};
 ghost use lib.ListN.{take};
 ghost use Rattle.stats.specs.Counts.{added};
 ghost use Rattle.stats.specs.Lists.{full, member, placesAfter, twice, usedAfter};
@@ -28,17 +27,11 @@ pub fn add(count: u32, n: u32) -> Count
     }
 }
 
-fn least(a: usize, b: usize) -> usize
-    ensures { λ r. ⌜ r ≡ min a b ⌝ }
-{
-    if a < b { a } else { b }
-}
-
 // Whether a FEE id is in the used part of the list.
 pub fn has_fee_id(fee_ids: &[u16], used: usize, fee_id: u16) -> bool
     ensures { λ r. ⌜ r ≡ member «fee_id» (take used (now («fee_ids» .entry))) ⌝ }
 {
-    let end = least(used, fee_ids.len());
+    let end = numbers::least(used, fee_ids.len());
     let mut i = 0;
     while i < end {
         if fee_ids[i] == fee_id {
@@ -53,7 +46,7 @@ pub fn has_fee_id(fee_ids: &[u16], used: usize, fee_id: u16) -> bool
 pub fn has_link(links: &[u8], used: usize, link: u8) -> bool
     ensures { λ r. ⌜ r ≡ member link (take used (now (links .entry))) ⌝ }
 {
-    let end = least(used, links.len());
+    let end = numbers::least(used, links.len());
     let mut i = 0;
     while i < end {
         if links[i] == link {
@@ -109,7 +102,7 @@ pub fn has_link_twice(links: &[u8], used: usize) -> bool
     ensures { λ r. ⌜ r ≡ twice (take used (now (links .entry))) ⌝ }
 {
     let mut later = [false; 256];
-    let mut i = least(used, links.len());
+    let mut i = numbers::least(used, links.len());
     while 0 < i {
         i -= 1;
         let link = wide(links[i]);

@@ -55,17 +55,11 @@ pub fn put_blanks(out: &mut [u8], at: usize, n: usize) -> usize
     ensures { λ r. ⌜ Put (now (out .entry)) at (replicate n 32) (now (out .exit)) r ⌝ }
 {
     let end = after(at, n);
-    let stop = least(end, out.len());
+    let stop = numbers::least(end, out.len());
     let mut i = at;
     while i < stop {
         out[i] = b' ';
         i += 1;
     }
     end
-}
-
-fn least(a: usize, b: usize) -> usize
-    ensures { λ r. ⌜ r ≡ min a b ⌝ }
-{
-    if a < b { a } else { b }
 }
