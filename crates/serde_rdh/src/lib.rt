@@ -14,6 +14,7 @@ use crate::little_endian::same_words;
 use crate::little_endian::write_words;
 use rdh::rdh_cru::CruidDw;
 use rdh::rdh_cru::DataformatReserved;
+pub use rdh::rdh_cru::RDH_CRU_SIZE_BYTES;
 use rdh::rdh_cru::RdhCru;
 
 mod little_endian;
@@ -21,9 +22,6 @@ mod rdh0;
 mod rdh1;
 mod rdh2;
 mod rdh3;
-
-// The length of a header.
-pub const RDH_CRU_SIZE_BYTES: usize = 64;
 
 // What `from_buf` answers.
 pub enum FromBuf {
