@@ -33,14 +33,10 @@ pub extern "C" fn kesarimbu_examine(
         ≡ examinedThrough settings state (now (links .entry)) (now («fee_ids» .entry)) (now (window .entry)) first last (now (header .entry)) ⌝ }
 {
     let before = *links;
-    let examination = input_scanner::examine(
-        settings_of(settings),
-        state_of(state, before),
-        fee_ids,
-        window,
-        BytePlace(first),
-        last,
-    );
+    let set = settings_of(settings);
+    let state = state_of(state, before);
+    let first = BytePlace(first);
+    let examination = input_scanner::examine(set, state, fee_ids, window, first, last);
     let answer = examination.answer;
     let marks = examination.marks;
     let after = examination.state;
@@ -63,14 +59,10 @@ pub extern "C" fn kesarimbu_load(
         ≡ loadedThrough settings state (now (links .entry)) (now («fee_ids» .entry)) (now (window .entry)) first last (now (header .entry)) ⌝ }
 {
     let before = *links;
-    let load = input_scanner::load_cdp(
-        settings_of(settings),
-        state_of(state, before),
-        fee_ids,
-        window,
-        BytePlace(first),
-        last,
-    );
+    let set = settings_of(settings);
+    let state = state_of(state, before);
+    let first = BytePlace(first);
+    let load = input_scanner::load_cdp(set, state, fee_ids, window, first, last);
     let answer = load.answer;
     let marks = load.marks;
     let after = load.state;
