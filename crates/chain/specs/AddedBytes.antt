@@ -15,7 +15,6 @@ use Rattle.serde_rdh.specs.Layout.{decoded}
 use Rattle.stats.specs.Counts.{fullCount}
 use Rattle.stats.specs.Lists.{twice}
 use Rattle.scan_cdp.specs.Answers.{Found, handed}
-use Rattle.scan_cdp.specs.Moves.{readSize}
 use Rattle.scan_cdp.specs.Steps.{Entry, answerIn, cut, entryOf, ended, limit, marksOf, payloadOf, placeAfter, progressAfter, startOf, step, outcomeIn, unchanged, unusable, withPlace}
 use Rattle.scan_cdp.specs.Outcomes.{memorySize, offset, payloadSize}
 use Rattle.scan_cdp.specs.Windows.{shown}
@@ -86,7 +85,6 @@ cut-empty skip t h rest e = on _ _ (ap (λ (b : Bool). skip || b) e ∙ or-true 
 
 whole-size : (skip : Bool) (h : RdhCru) (rest : List ℕ) → skip ≡ false → cut skip HandedOut h (length rest) ≡ false
     → length (payloadOf skip HandedOut h rest) ≡ payloadSize h
-unfolding readSize
 whole-size skip h rest read e = payload-length skip h rest ∙ off 0 (payloadSize h) (λ i. read i || e i)
 
 cut-entries : (set : Settings) (t : Outcome) (s : State) (feeIds : List ℕ) (h : RdhCru) (rest rest′ : List ℕ) (end end′ : ℕ)
@@ -126,8 +124,8 @@ unusable-elsewhere s feeIds below =
     ap (λ (b : Bool).
     b || ltb limit (p .position .0)
     || ltb (length (s .links)) (p .«links_used») || ltb (length feeIds) (p .«fee_ids_used»)
-    || twice (take (p .«links_used») (s .links))
-    || eqb (p .counts .seen) fullCount || eqb (p .counts .filtered) fullCount || eqb (p .counts .payload) fullCount)
+    || eqb (p .counts .seen) fullCount || eqb (p .counts .filtered) fullCount || eqb (p .counts .payload) fullCount
+    || twice (take (p .«links_used») (s .links)))
     (le-ltb limit (p .place .0) below)
 
 -- The place behind a packet whose payload is read: its end, or the recording's.

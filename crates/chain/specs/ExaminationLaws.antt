@@ -15,7 +15,7 @@ use Rattle.serde_rdh.specs.Layout.{decoded}
 use Rattle.scan_cdp.specs.Answers.{Found, wants}
 use Rattle.scan_cdp.specs.Steps.{Entry, answerIn, cut, ended, entryOf, limit, marksOf, payloadOf, progressAfter, placeAfter, startOf, step, outcomeIn, unchanged, unusable}
 use Rattle.scan_cdp.specs.Outcomes.{handsOut, payloadSize}
-use Rattle.scan_cdp.specs.Windows.{bytesAt, examined, located, outside, partAt, placed, shown}
+use Rattle.scan_cdp.specs.Windows.{bytesAt, examined, located, outside, partAt, placed, replyFor, shown}
 use Rattle.scan_cdp.specs.declared.Position.{Position}
 use Rattle.scan_cdp.specs.declared.Progress.{Progress}
 use Rattle.scan_cdp.specs.declared.Settings.{Settings}
@@ -301,17 +301,11 @@ module _ (recording : List ℕ) (set : Settings) (k : Kept) (w : Window) (of : W
         abbrev window-entry : Entry (List ℕ)
         window-entry = entryOf set outcome (k .state) (k .feeIds) header rest (w .first + length (w .bytes))
 
-        -- the next entry of the chain, and what the step finds on the window
+        -- the next entry of the chain
         next-is : next recording set k ≡ entryOf set outcome (k .state) (k .feeIds) header (drop (placeOf k) recording) (length recording)
         next-is =
             step-header set (k .state) (k .feeIds) (drop (placeOf k) recording) (length recording) usable
             (omega (arith, whole, shown-fits recording w of (placeOf k) starts))
-
-        window-is : step set (k .state) (k .feeIds) rest (w .first + length (w .bytes)) ≡ window-entry
-        window-is =
-            step-header set (k .state) (k .feeIds) rest (w .first + length (w .bytes)) usable whole
-            ∙ ap (λ (h : RdhCru). entryOf set (outcomeIn set p (k .feeIds) h) (k .state) (k .feeIds) h rest (w .first + length (w .bytes)))
-            (same-header recording w of (placeOf k) starts whole)
 
         seen-is : examined set (k .state) (k .feeIds) (w .bytes) (w .first) (w .last)
             ≡ pick (not (w .last) && cut skip outcome header size)
@@ -320,14 +314,10 @@ module _ (recording : List ℕ) (set : Settings) (k : Kept) (w : Window) (of : W
         unfolding entryOf marksOf
         seen-is =
             examined-header set (k .state) (k .feeIds) (w .bytes) (w .first) (w .last) usable inside whole
-            ∙ ap (λ (e : Entry (List ℕ)).
-            pick (not (w .last) && e .marks .«payload_cut»)
-            (unchanged (k .state) (k .feeIds) (gives (wants (p .place) (64 + payloadSize (decoded rest)))))
-            (located (placeOf k + 64 - w .first) e)) window-is
             ∙ ap (λ (h : RdhCru).
-            pick (not (w .last) && cut skip outcome header size)
-            (unchanged (k .state) (k .feeIds) (gives (wants (p .place) (64 + payloadSize h))))
-            (located (placeOf k + 64 - w .first) window-entry)) (same-header recording w of (placeOf k) starts whole)
+            replyFor (w .last) (k .state) (k .feeIds) h (placeOf k + 64 - w .first)
+            (entryOf set (outcomeIn set p (k .feeIds) h) (k .state) (k .feeIds) h rest (w .first + length (w .bytes))))
+            (same-header recording w of (placeOf k) starts whole)
 
         read-back : entryRead (w .bytes) (located (placeOf k + 64 - w .first) window-entry) ≡ window-entry
         read-back = entry-read set (k .state) (k .feeIds) (w .bytes) (w .first) outcome header (w .first + length (w .bytes)) starts

@@ -2,91 +2,75 @@
 ghost use mathlib.Core.Path.{_≡_};
 ghost use Prim.Native.Nat.{_+_, _≤_};
 ghost use Rattle.basis.specs.Pick.{pick};
-ghost use Rattle.scan_cdp.specs.Steps.{limit};
+ghost use Rattle.scan_cdp.specs.Steps.{limit, withLinks};
 ghost use Rattle.scan_cdp.specs.Windows.{examined};
 ghost use Rattle.scan_cdp.specs.Loads.{eitherInitial, loaded, noLoadMarks, together};
-ghost use Rattle.input_scanner.specs.Replies.{examinationOf, loadOf};
+ghost use Rattle.scan_window.specs.Examinations.{examinationOf};
+ghost use Rattle.input_scanner.specs.Replies.{loadOf};
 use scan_cdp::BytePlace;
 use scan_cdp::Examined;
 use scan_cdp::Initial;
 use scan_cdp::LoadCdp;
 use scan_cdp::LoadMarks;
 use scan_cdp::Marks;
+use scan_cdp::Progress;
 use scan_cdp::Refusal;
 use scan_cdp::Settings;
-use scan_cdp::State;
 use scan_step::take_step;
-use scan_window::no_marks;
+use scan_window::Examination;
+use scan_window::unchanged;
 
-// What the examination of one header replies.
-pub struct Examination {
-    pub answer: Examined,
-    pub marks: Marks,
-    pub state: State,
-}
-
-// What a load replies.
+// What a load replies. Links and FEE ids are left where they are lent.
 pub struct Load {
     pub answer: LoadCdp,
     pub marks: LoadMarks,
-    pub state: State,
+    pub progress: Progress,
 }
 
-// Examines the header at the state's byte place. `window` holds the recording's bytes from `first` on, and the recording ends with it if it
-// is the `last`.
+// Examines the header at the byte place. `window` holds the recording's bytes from `first` on, and the recording ends with it if it is the
+// `last`.
 pub fn examine(
     set: Settings,
-    state: State,
+    progress: Progress,
+    links: &mut [u8; 256],
     fee_ids: &mut [u16],
     window: &[u8],
     first: BytePlace,
     last: bool,
 ) -> Examination
-    ensures { λ r. ⌜ examinationOf r (now («fee_ids» .exit)) ≡ examined set state (now («fee_ids» .entry)) (now (window .entry)) (first .0) last ⌝ }
+    ensures { λ r. ⌜ examinationOf r (now (links .exit)) (now («fee_ids» .exit))
+        ≡ examined set (withLinks progress (now (links .entry))) (now («fee_ids» .entry)) (now (window .entry)) (first .0) last ⌝ }
 {
-    let progress = state.progress;
-    let mut links = state.links;
-    if stats::has_link_twice(&links, progress.links_used) {
-        return Examination {
-            answer: Examined::Answered(LoadCdp::Refused(Refusal::Unusable)),
-            marks: no_marks(),
-            state,
-        };
+    if stats::has_link_twice(links, progress.links_used) {
+        return unchanged(progress, LoadCdp::Refused(Refusal::Unusable));
     }
-    let next = take_step(set, progress, &mut links, fee_ids, window, first, last);
-    let answer = next.answer;
-    let marks = next.marks;
-    let progress = next.progress;
-    Examination {
-        answer,
-        marks,
-        state: State { progress, links },
-    }
+    take_step(set, progress, links, fee_ids, window, first, last)
 }
 
-// Loads the next packet: examines headers up to the first that is not passed. The links are copied once for the whole load.
+// Loads the next packet: examines headers up to the first that is not passed.
 pub fn load_cdp(
     set: Settings,
-    state: State,
+    progress: Progress,
+    links: &mut [u8; 256],
     fee_ids: &mut [u16],
     window: &[u8],
     first: BytePlace,
     last: bool,
 ) -> Load
-    ensures { λ r. ⌜ loadOf r (now («fee_ids» .exit)) ≡ loaded set state (now («fee_ids» .entry)) (now (window .entry)) (first .0) last ⌝ }
+    ensures { λ r. ⌜ loadOf r (now (links .exit)) (now («fee_ids» .exit))
+        ≡ loaded set (withLinks progress (now (links .entry))) (now («fee_ids» .entry)) (now (window .entry)) (first .0) last ⌝ }
 {
-    let mut progress = state.progress;
-    let mut links = state.links;
+    let mut progress = progress;
     let mut marks = no_load_marks();
-    if stats::has_link_twice(&links, progress.links_used) {
+    if stats::has_link_twice(links, progress.links_used) {
         return Load {
             answer: LoadCdp::Refused(Refusal::Unusable),
             marks,
-            state: State { progress, links },
+            progress,
         };
     }
     let answer = loop {
-        let next = take_step(set, progress, &mut links, fee_ids, window, first, last);
+        let next = take_step(set, progress, links, fee_ids, window, first, last);
         let next_marks = next.marks;
         marks = together(marks, next_marks);
         progress = next.progress;
@@ -99,7 +83,7 @@ pub fn load_cdp(
     Load {
         answer,
         marks,
-        state: State { progress, links },
+        progress,
     }
 }
 

@@ -2,14 +2,11 @@
 ghost use mathlib.Core.Path.{_≡_};
 ghost use Rattle.scan_cdp.specs.Steps.{isFirst};
 ghost use Rattle.scan_cdp.specs.Outcomes.{badOffset, isCounted, filtered, handsOut, matched, skipped, outcomeOf};
+use rdh::rdh_cru::RDH_SIZE;
 use rdh::rdh_cru::RdhCru;
 use scan_cdp::OpenLoad;
 use scan_cdp::Outcome;
 use scan_cdp::Settings;
-use serde_rdh::RDH_CRU_SIZE_BYTES;
-
-// The length of a header, which is the least offset and the least memory size, in the width of those fields.
-pub const RDH_SIZE: u16 = RDH_CRU_SIZE_BYTES as u16;
 
 // The largest offset: 10 KB behind the header.
 const MAX_OFFSET: u16 = 10_064;

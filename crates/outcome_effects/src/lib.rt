@@ -3,6 +3,7 @@ ghost use mathlib.Core.Path.{_≡_};
 ghost use lib.IntN.{subℕ};
 ghost use Rattle.scan_cdp.specs.Answers.{examinedAnswer, refusal};
 ghost use Rattle.scan_cdp.specs.Steps.{answerIn, initialOf};
+use rdh::rdh_cru::RDH_CRU_SIZE_BYTES;
 use rdh::rdh_cru::RdhCru;
 use scan_cdp::Examined;
 use scan_cdp::Initial;
@@ -12,7 +13,6 @@ use scan_cdp::Packet;
 use scan_cdp::Part;
 use scan_cdp::Position;
 use scan_cdp::Refusal;
-use serde_rdh::RDH_CRU_SIZE_BYTES;
 
 // The initial mark, before anything is counted.
 pub fn initial_collect_stats(stats: bool, first: bool, position: Position, rdh: RdhCru) -> Initial

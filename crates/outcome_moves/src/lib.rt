@@ -1,18 +1,19 @@
 // How far the outcome of one header moves byte place and position, and what becomes of its load.
 ghost use mathlib.Core.Path.{_≡_};
 ghost use Prim.Native.Nat.{_+_, _≤_};
-ghost use Rattle.scan_cdp.specs.Moves.{movedBy, positionBy};
+ghost use Rattle.outcome_moves.specs.Moves.{PlaceMoves, PositionMoves};
 ghost use Rattle.scan_cdp.specs.Steps.{loadAfter, startOf};
 ghost use Rattle.scan_cdp.specs.declared.Outcome.the-variants.{HandedOut};
+use outcome_payload::is_cut;
+use rdh::rdh_cru::RDH_CRU_SIZE_BYTES;
 use rdh::rdh_cru::RdhCru;
 use scan_cdp::OpenLoad;
 use scan_cdp::Outcome;
 use scan_cdp::Position;
-use serde_rdh::RDH_CRU_SIZE_BYTES;
 
 // How far the byte place moves on.
-pub fn place_moved(skip: bool, outcome: Outcome, cut: bool, rdh: RdhCru, left: usize) -> usize
-    ensures { λ r. ⌜ (r ≡ movedBy skip outcome cut rdh left) × (r ≤ left + 65535) ⌝ }
+pub fn place_moved(skip: bool, outcome: Outcome, rdh: RdhCru, left: usize) -> usize
+    ensures { λ r. ⌜ PlaceMoves skip outcome rdh left r × (r ≤ left + 65535) ⌝ }
 {
     match outcome {
         Outcome::FeeIdsFull => RDH_CRU_SIZE_BYTES,
@@ -20,18 +21,18 @@ pub fn place_moved(skip: bool, outcome: Outcome, cut: bool, rdh: RdhCru, left: u
         Outcome::MemorySize => RDH_CRU_SIZE_BYTES,
         Outcome::NegativeSkip => RDH_CRU_SIZE_BYTES,
         Outcome::Passed => wide(rdh.offset_new_packet),
-        Outcome::HandedOut => read_moved(skip, cut, rdh, left),
+        Outcome::HandedOut => read_moved(skip, rdh, left),
     }
 }
 
 // How far it moves on behind a packet: after a payload was read by the memory size, and not by the offset; at a cut one to the end.
-fn read_moved(skip: bool, cut: bool, rdh: RdhCru, left: usize) -> usize
-    ensures { λ r. ⌜ (r ≡ movedBy skip HandedOut cut rdh left) × (r ≤ left + 65535) ⌝ }
+fn read_moved(skip: bool, rdh: RdhCru, left: usize) -> usize
+    ensures { λ r. ⌜ PlaceMoves skip HandedOut rdh left r × (r ≤ left + 65535) ⌝ }
 {
     if skip {
         return wide(rdh.offset_new_packet);
     }
-    if cut {
+    if is_cut(skip, Outcome::HandedOut, rdh, left) {
         return left;
     }
     wide(rdh.memory_size)
@@ -45,7 +46,7 @@ fn wide(n: u16) -> usize
 
 // How far the reported position moves on.
 pub fn position_moved(outcome: Outcome, rdh: RdhCru) -> u64
-    ensures { λ r. ⌜ (r ≡ positionBy outcome rdh) × (r ≤ 65535) ⌝ }
+    ensures { λ r. ⌜ PositionMoves outcome rdh r × (r ≤ 65535) ⌝ }
 {
     match outcome {
         Outcome::FeeIdsFull => 0,

@@ -3,4 +3,3 @@ pub mod Outcomes
 pub mod Steps
 pub mod Windows
 pub mod Loads
-pub mod Moves

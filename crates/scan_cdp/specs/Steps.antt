@@ -73,6 +73,10 @@ withPlace place s =
       links = s .links;
     }
 
+-- The state, whose links stand apart while a call goes on.
+abbrev pub withLinks : Progress → List ℕ → State
+withLinks p links = record { progress = p; links = links }
+
 -- The state with no load open (S7).
 abbrev pub closed : State → State
 closed s =
@@ -94,14 +98,17 @@ closed s =
 abbrev pub limit : ℕ
 limit = 2 ^ 60
 
--- Refusal 6 by state and list alone (R6, R11), a line for each: byte place and position; used numbers; a link that is listed twice; counts.
+-- Refusal 6 by the state's numbers and the lengths of the lists, a line for each: byte place and position; used numbers; counts.
+abbrev pub numbersUnusable : Progress → (links feeIds : ℕ) → Bool
+numbersUnusable p links feeIds =
+    ltb limit (p .place .0) || ltb limit (p .position .0)
+    || ltb links (p .«links_used») || ltb feeIds (p .«fee_ids_used»)
+    || eqb (p .counts .seen) fullCount || eqb (p .counts .filtered) fullCount || eqb (p .counts .payload) fullCount
+
+-- Refusal 6 by state and list alone (R6, R11): by a number, or by a link that is listed twice.
 unfoldable pub unusable : State → List ℕ → Bool
 unusable s feeIds =
-    let p = s .progress in
-    ltb limit (p .place .0) || ltb limit (p .position .0)
-    || ltb (length (s .links)) (p .«links_used») || ltb (length feeIds) (p .«fee_ids_used»)
-    || twice (take (p .«links_used») (s .links))
-    || eqb (p .counts .seen) fullCount || eqb (p .counts .filtered) fullCount || eqb (p .counts .payload) fullCount
+    numbersUnusable (s .progress) (length (s .links)) (length feeIds) || twice (take (s .progress .«links_used») (s .links))
 
 abbrev pub noMarks : Marks
 noMarks = record { initial = Report.None; «seen_carry» = false; «filtered_carry» = false; «payload_carry» = false; «payload_cut» = false }
@@ -258,12 +265,18 @@ entryOf set t s feeIds h rest end =
       feeIds = placesListed (lists set t p) (feeId h) (p .«fee_ids_used») feeIds;
     }
 
--- The step: refusal 6, then refusal 1 (S1), then what becomes of the header at the byte place.
+-- The entry of the header at the start of some bytes.
+abbrev pub entryAt : Settings → State → List ℕ → (rest : List ℕ) → (end : ℕ) → Entry (List ℕ)
+entryAt set s feeIds rest end = entryOf set (outcomeIn set (s .progress) feeIds (decoded rest)) s feeIds (decoded rest) rest end
+
+-- Refusal 6 where it is due, then refusal 1 (S1), then what becomes of the header at the byte place.
+abbrev pub stepUnless : (six : Bool) → Settings → State → List ℕ → (rest : List ℕ) → (end : ℕ) → Entry (List ℕ)
+stepUnless six set s feeIds rest end =
+    pick six (unchanged s feeIds (refuses 6 [])) (pick (ltb (length rest) 64) (ended s feeIds end) (entryAt set s feeIds rest end))
+
+-- The step: refusal 6 is due by state and list.
 unfoldable pub step : Settings → State → List ℕ → (rest : List ℕ) → (end : ℕ) → Entry (List ℕ)
-step set s feeIds rest end =
-    pick (unusable s feeIds) (unchanged s feeIds (refuses 6 []))
-    (pick (ltb (length rest) 64) (ended s feeIds end)
-    (entryOf set (outcomeIn set (s .progress) feeIds (decoded rest)) s feeIds (decoded rest) rest end))
+step set s feeIds rest end = stepUnless (unusable s feeIds) set s feeIds rest end
 
 -- The step at a state's byte place in a whole recording.
 abbrev pub stepIn : List ℕ → Settings → State → List ℕ → Entry (List ℕ)

@@ -6,9 +6,10 @@ use lib.Dec.{eqb, ltb}
 use lib.ListN.{length, take, drop}
 use Rattle.basis.specs.Pick.{pick}
 use Rattle.basis.specs.Refusals.{Answer, gives, refuses}
+use Rattle.rdh.specs.declared.rdh_cru.RdhCru.{RdhCru}
 use Rattle.serde_rdh.specs.Layout.{decoded}
 use Rattle.scan_cdp.specs.Answers.{Found, answerAs, wants}
-use Rattle.scan_cdp.specs.Steps.{Entry, entryAs, limit, step, unchanged, unusable}
+use Rattle.scan_cdp.specs.Steps.{Entry, entryAs, limit, stepUnless, unchanged, unusable}
 use Rattle.scan_cdp.specs.Outcomes.{payloadSize}
 use Rattle.scan_cdp.specs.declared.BytePlace.{BytePlace}
 use Rattle.scan_cdp.specs.declared.Part.{Part}
@@ -38,14 +39,24 @@ placed start = answerAs (λ (payload : List ℕ). partAt start (length payload))
 abbrev pub located : ℕ → Entry (List ℕ) → Entry Part
 located start = entryAs (λ (payload : List ℕ). partAt start (length payload))
 
--- An examination: refusal 6; on a window that is not last a want, for the header or for its payload where the step would find it cut, which
--- changes nothing (W6, W7); and else the step.
+-- A want for so many bytes from the byte place on, which changes nothing (W6).
+abbrev pub wanting : State → List ℕ → ℕ → Entry Part
+wanting s feeIds size = unchanged s feeIds (gives (wants (s .progress .place) size))
+
+-- What is replied where the step finds a header (W7): on a window that is not last a want, if the step would find the payload cut; and else
+-- the step's entry. The payload starts at `start` in the window.
+abbrev pub replyFor : (last : Bool) → State → List ℕ → RdhCru → (start : ℕ) → Entry (List ℕ) → Entry Part
+replyFor last s feeIds h start e = pick (not last && e .marks .«payload_cut») (wanting s feeIds (64 + payloadSize h)) (located start e)
+
+-- Refusal 6 where it is due, by the window, too; on a window that is not last a want, for the header or for its payload; and else the step.
+abbrev pub examinedUnless : (six : Bool) → Settings → State → List ℕ → (w : List ℕ) → (first : ℕ) → (last : Bool) → Entry Part
+examinedUnless six set s feeIds w first last =
+    let place = s .progress .place .0 in
+    let rest = shown place first w in
+    pick (six || outside place first (length w)) (unchanged s feeIds (refuses 6 []))
+    (pick (not last && ltb (length rest) 64) (wanting s feeIds 64)
+    (replyFor last s feeIds (decoded rest) (place + 64 - first) (stepUnless six set s feeIds rest (first + length w))))
+
+-- An examination: refusal 6 is due by state and list.
 unfoldable pub examined : Settings → State → List ℕ → (w : List ℕ) → (first : ℕ) → (last : Bool) → Entry Part
-examined set s feeIds w first last =
-    let place = s .progress .place in
-    let rest = shown (place .0) first w in
-    let e = step set s feeIds rest (first + length w) in
-    pick (unusable s feeIds || outside (place .0) first (length w)) (unchanged s feeIds (refuses 6 []))
-    (pick (not last && ltb (length rest) 64) (unchanged s feeIds (gives (wants place 64)))
-    (pick (not last && e .marks .«payload_cut») (unchanged s feeIds (gives (wants place (64 + payloadSize (decoded rest)))))
-    (located (place .0 + 64 - first) e)))
+examined set s feeIds w first last = examinedUnless (unusable s feeIds) set s feeIds w first last

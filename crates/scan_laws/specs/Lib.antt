@@ -1,4 +1,3 @@
-pub mod MoveLaws
 pub mod Runs
 pub mod StepLaws
 pub mod RunLaws

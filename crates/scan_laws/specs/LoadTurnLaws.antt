@@ -40,18 +40,16 @@ module _ (set : Settings) (ms₀ : LoadMarks) (s₀ : State) (feeIds₀ w : List
     pub same : loadedFrom (length w / 64 + 1) set ms₀ s₀ feeIds₀ w first last ≡ loadedFrom (suc turns) set ms s feeIds w first last
     pub to-come : length (shownTo s w first) < 64 * suc turns
     pub once : twice (take (s .progress .«links_used») (s .links)) ≡ false
-    pub links : length (s .links) ≡ 256
     pub fee-ids : length feeIds ≡ length feeIds₀
     pub carries : ms .«seen_carries» + suc turns ≤ ms₀ .«seen_carries» + (length w / 64 + 1)
 
-  pub load-begins : twice (take (s₀ .progress .«links_used») (s₀ .links)) ≡ false → length (s₀ .links) ≡ 256 → LoadTurn ms₀ s₀ feeIds₀
-  load-begins once links =
+  pub load-begins : twice (take (s₀ .progress .«links_used») (s₀ .links)) ≡ false → LoadTurn ms₀ s₀ feeIds₀
+  load-begins once =
       record {
         turns = length w / 64;
         same = ap (λ (n : ℕ). loadedFrom n set ms₀ s₀ feeIds₀ w first last) (add-one (length w / 64));
         to-come = subst (λ (n : ℕ). length (shownTo s₀ w first) < 64 * n) (add-one (length w / 64)) (enough s₀ w first);
         once = once;
-        links = links;
         fee-ids = refl;
         carries = omega arith;
       }
@@ -103,7 +101,6 @@ module _ (set : Settings) (ms₀ : LoadMarks) (s₀ : State) (feeIds₀ w : List
               same = same;
               to-come = few;
               once = on-it .once;
-              links = on-it .links ∙ here .links;
               fee-ids = on-it .fee-ids ∙ here .fee-ids;
               carries = omega (arith, is-suc, carried ms (e .marks), here .carries);
             }

@@ -14,13 +14,14 @@ use Rattle.serde_rdh.specs.Layout.{decoded}
 use Rattle.stats.specs.Counts.{fullCount}
 use Rattle.stats.specs.Lists.{twice}
 use Rattle.stats.specs.ListsLaws.{length-places, once-kept, used-kept}
-use Rattle.scan_cdp.specs.Answers.{Found, wants}
+use Rattle.scan_cdp.specs.Answers.{Found}
 use Rattle.scan_cdp.specs.Loads.{isPassed}
 use Rattle.scan_laws.specs.Runs.{closes, isRefusal, isWant}
-use Rattle.scan_cdp.specs.Steps.{Entry, answerIn, cut, ended, entryOf, limit, noMarks, placeAfter, placesListed, progressAfter}
+use Rattle.scan_laws.specs.WindowLaws.{examined-header, examined-short, refused-6}
+use Rattle.scan_cdp.specs.Steps.{Entry, answerIn, cut, ended, entryAt, entryOf, limit, noMarks, placeAfter, placesListed, progressAfter}
 use Rattle.scan_cdp.specs.Steps.{step, outcomeIn, unchanged, unusable, usedListed}
 use Rattle.scan_cdp.specs.Outcomes.{badOffset, feeId, filtered, isMatch, memorySize, offset, payloadSize, skipped, outcomeOf}
-use Rattle.scan_cdp.specs.Windows.{examined, located, outside, placed, shown}
+use Rattle.scan_cdp.specs.Windows.{examined, located, outside, placed, shown, wanting}
 use Rattle.scan_cdp.specs.declared.Part.{Part}
 use Rattle.scan_cdp.specs.declared.Position.{Position}
 use Rattle.scan_cdp.specs.declared.Settings.{Settings}
@@ -99,10 +100,10 @@ pub usable : (s : State) (feeIds : List ℕ) → unusable s feeIds ≡ false →
 unfolding unusable
 usable s feeIds e =
     let p = s .progress in
-    let (e₇, payload) = neither _ _ e in
-    let (e₆, filtered) = neither _ _ e₇ in
-    let (e₅, seen) = neither _ _ e₆ in
-    let (e₄, once) = neither _ _ e₅ in
+    let (e₇, once) = neither _ _ e in
+    let (e₆, payload) = neither _ _ e₇ in
+    let (e₅, filtered) = neither _ _ e₆ in
+    let (e₄, seen) = neither _ _ e₅ in
     let (e₃, feeIdsUsed) = neither _ _ e₄ in
     let (e₂, linksUsed) = neither _ _ e₃ in
     let (place, position) = neither _ _ e₂ in
@@ -128,47 +129,16 @@ pub record Admitted (s : State) (feeIds w : List ℕ) (first : ℕ) : Type 0 whe
 abbrev pub shownTo : State → (w : List ℕ) → (first : ℕ) → List ℕ
 shownTo s w first = shown (s .progress .place .0) first w
 
--- The entry of the header at the start of some bytes.
-abbrev pub entryAt : Settings → State → List ℕ → (rest : List ℕ) → (end : ℕ) → Entry (List ℕ)
-entryAt set s feeIds rest end = entryOf set (outcomeIn set (s .progress) feeIds (decoded rest)) s feeIds (decoded rest) rest end
-
-step-ends : (set : Settings) (s : State) (feeIds rest : List ℕ) (end : ℕ) → unusable s feeIds ≡ false → ltb (length rest) 64 ≡ true
-    → step set s feeIds rest end ≡ ended s feeIds end
-unfolding step
-step-ends set s feeIds rest end fine short = off _ _ fine ∙ on _ _ short
-
-step-enters : (set : Settings) (s : State) (feeIds rest : List ℕ) (end : ℕ) → unusable s feeIds ≡ false → ltb (length rest) 64 ≡ false
-    → step set s feeIds rest end ≡ entryAt set s feeIds rest end
-unfolding step
-step-enters set s feeIds rest end fine long = off _ _ fine ∙ off _ _ long
-
--- A want for so many bytes.
-abbrev pub wanting : State → List ℕ → ℕ → Entry Part
-wanting s feeIds size = unchanged s feeIds (gives (wants (s .progress .place) size))
-
--- The examination behind refusal 6: a want for a header, a want for a header with its payload, or the step's entry.
-abbrev reply : (last short : Bool) → State → List ℕ → (size start : ℕ) → Entry (List ℕ) → Entry Part
-reply last short s feeIds size start e =
-    pick (not last && short) (wanting s feeIds 64)
-    (pick (not last && e .marks .«payload_cut») (wanting s feeIds size) (located start e))
-
-reply-short : (P : Entry Part → Type 0) (last : Bool) (s : State) (feeIds : List ℕ) (size start : ℕ) (e : Entry (List ℕ))
-    → (last ≡ false → P (wanting s feeIds 64)) → (last ≡ true → P (located start e)) → P (reply last true s feeIds size start e)
-reply-short P true s feeIds size start e wanted found = found refl
-reply-short P false s feeIds size start e wanted found = wanted refl
-
-reply-long : (P : Entry Part → Type 0) (last : Bool) (s : State) (feeIds : List ℕ) (size start : ℕ) (e : Entry (List ℕ))
-    → (last ≡ false → e .marks .«payload_cut» ≡ true → P (wanting s feeIds size))
-    → ((not last && e .marks .«payload_cut») ≡ false → P (located start e)) → P (reply last false s feeIds size start e)
-reply-long P true s feeIds size start e wanted found = found refl
-reply-long P false s feeIds size start e wanted found = by-test P (e .marks .«payload_cut») _ _ (wanted refl) found
+wanted : (last cuts : Bool) → (not last && cuts) ≡ true → (last ≡ false) × (cuts ≡ true)
+wanted true cuts e = absurd (false≢true e)
+wanted false cuts e = (refl, e)
 
 -- What holds of the entry in each of five cases holds of the examination.
 pub examined-cases : (set : Settings) (s : State) (feeIds w : List ℕ) (first : ℕ) (last : Bool) (P : Entry Part → Type 0)
     → ((unusable s feeIds || outside (s .progress .place .0) first (length w)) ≡ true → P (unchanged s feeIds (refuses 6 [])))
     → (Admitted s feeIds w first → length (shownTo s w first) < 64 → last ≡ false → P (wanting s feeIds 64))
     → (Admitted s feeIds w first → length (shownTo s w first) < 64 → last ≡ true
-    → P (located (s .progress .place .0 + 64 - first) (ended s feeIds (first + length w))))
+    → P (ended s feeIds (first + length w)))
     → (Admitted s feeIds w first → 64 ≤ length (shownTo s w first) → last ≡ false
     → entryAt set s feeIds (shownTo s w first) (first + length w) .marks .«payload_cut» ≡ true
     → P (wanting s feeIds (64 + payloadSize (decoded (shownTo s w first)))))
@@ -176,31 +146,34 @@ pub examined-cases : (set : Settings) (s : State) (feeIds w : List ℕ) (first :
     → (not last && entryAt set s feeIds (shownTo s w first) (first + length w) .marks .«payload_cut») ≡ false
     → P (located (s .progress .place .0 + 64 - first) (entryAt set s feeIds (shownTo s w first) (first + length w))))
     → P (examined set s feeIds w first last)
-unfolding examined
-examined-cases set s feeIds w first last P six short ends cuts enters =
-    by-test P (unusable s feeIds || outside (s .progress .place .0) first (length w)) _ _ six (λ fine.
-    let (state, window) = neither (unusable s feeIds) (outside (s .progress .place .0) first (length w)) fine in
-    behind (record { state = state; window = window }) (ltb (length (shownTo s w first)) 64) refl)
+examined-cases set s feeIds w first last P six short ends cuts enters = by-6 (unusable s feeIds || outside place first (length w)) refl
   where
-    behind : Admitted s feeIds w first → (b : Bool) → ltb (length (shownTo s w first)) 64 ≡ b
-        → P (reply last (ltb (length (shownTo s w first)) 64) s feeIds (64 + payloadSize (decoded (shownTo s w first)))
-        (s .progress .place .0 + 64 - first) (step set s feeIds (shownTo s w first) (first + length w)))
-    behind a true e =
-        let rest = shownTo s w first in
-        let size = 64 + payloadSize (decoded rest) in
-        let start = s .progress .place .0 + 64 - first in
+    place : ℕ
+    place = s .progress .place .0
+
+    rest : List ℕ
+    rest = shownTo s w first
+
+    entry : Entry (List ℕ)
+    entry = entryAt set s feeIds rest (first + length w)
+
+    by-length : Admitted s feeIds w first → (b : Bool) → ltb (length rest) 64 ≡ b → P (examined set s feeIds w first last)
+    by-length a true e =
         let below = ltb-true (length rest) 64 e in
-        subst₂ (λ (b : Bool) (x : Entry (List ℕ)). P (reply last b s feeIds size start x)) (sym e)
-        (sym (step-ends set s feeIds rest (first + length w) (a .state) e))
-        (reply-short P last s feeIds size start (ended s feeIds (first + length w)) (short a below) (ends a below))
-    behind a false e =
-        let rest = shownTo s w first in
-        let size = 64 + payloadSize (decoded rest) in
-        let start = s .progress .place .0 + 64 - first in
+        subst P (sym (examined-short set s feeIds w first last (a .state) (a .window) below))
+        (by-test P last _ _ (ends a below) (short a below))
+    by-length a false e =
         let above = ltb-false (length rest) 64 e in
-        subst₂ (λ (b : Bool) (x : Entry (List ℕ)). P (reply last b s feeIds size start x)) (sym e)
-        (sym (step-enters set s feeIds rest (first + length w) (a .state) e))
-        (reply-long P last s feeIds size start (entryAt set s feeIds rest (first + length w)) (cuts a above) (enters a above))
+        subst P (sym (examined-header set s feeIds w first last (a .state) (a .window) above))
+        (by-test P (not last && entry .marks .«payload_cut») _ _
+        (λ lacks. let (more, cut-off) = wanted last (entry .marks .«payload_cut») lacks in cuts a above more cut-off)
+        (enters a above))
+
+    by-6 : (b : Bool) → (unusable s feeIds || outside place first (length w)) ≡ b → P (examined set s feeIds w first last)
+    by-6 true e = subst P (sym (refused-6 set s feeIds w first last e)) (six e)
+    by-6 false e =
+        let (state, window) = neither (unusable s feeIds) (outside place first (length w)) e in
+        by-length (record { state = state; window = window }) (ltb (length rest) 64) refl
 
 -- ---- the lists that an examination leaves
 
@@ -245,9 +218,9 @@ pub record InOrder (e : Entry Part) : Type 0 where
 unchanged-in-order : (s : State) (feeIds : List ℕ) (answer : Answer (Found Part)) → Usable s feeIds → InOrder (unchanged s feeIds answer)
 unchanged-in-order s feeIds answer u = record { links-used = u .links-used; fee-ids-used = u .fee-ids-used; once = u .once }
 
-ended-in-order : (s : State) (feeIds : List ℕ) (end start : ℕ) → Usable s feeIds → InOrder (located start (ended s feeIds end))
+ended-in-order : (s : State) (feeIds : List ℕ) (end : ℕ) → Usable s feeIds → InOrder (ended s feeIds end)
 unfolding ended
-ended-in-order s feeIds end start u = record { links-used = u .links-used; fee-ids-used = u .fee-ids-used; once = u .once }
+ended-in-order s feeIds end u = record { links-used = u .links-used; fee-ids-used = u .fee-ids-used; once = u .once }
 
 entry-in-order : (set : Settings) (s : State) (feeIds rest : List ℕ) (end start : ℕ) → Usable s feeIds
     → InOrder (located start (entryAt set s feeIds rest end))
@@ -266,7 +239,7 @@ examined-in-order set s feeIds w first last u =
     examined-cases set s feeIds w first last InOrder
     (λ six. unchanged-in-order s feeIds _ u)
     (λ a short more. unchanged-in-order s feeIds _ u)
-    (λ a short all. ended-in-order s feeIds (first + length w) _ u)
+    (λ a short all. ended-in-order s feeIds (first + length w) u)
     (λ a long more cuts. unchanged-in-order s feeIds _ u)
     (λ a long whole. entry-in-order set s feeIds (shownTo s w first) (first + length w) _ u)
 

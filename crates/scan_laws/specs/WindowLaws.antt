@@ -13,10 +13,9 @@ use Rattle.basis.specs.Refusals.{gives, refuses}
 use Rattle.rdh.specs.declared.rdh_cru.RdhCru.{RdhCru}
 use Rattle.serde_rdh.specs.Layout.{decoded}
 use Rattle.scan_cdp.specs.Answers.{wants}
-use Rattle.scan_cdp.specs.Moves.{readSize}
-use Rattle.scan_cdp.specs.Steps.{Entry, answerIn, cut, ended, entryOf, marksOf, payloadOf, step, outcomeIn, unchanged, unusable}
+use Rattle.scan_cdp.specs.Steps.{answerIn, cut, ended, entryAt, payloadOf, step, stepUnless, unchanged, unusable}
 use Rattle.scan_cdp.specs.Outcomes.{payloadSize}
-use Rattle.scan_cdp.specs.Windows.{bytesAt, examined, located, outside, partAt, placed, shown}
+use Rattle.scan_cdp.specs.Windows.{bytesAt, examined, examinedUnless, located, outside, partAt, placed, replyFor, shown, wanting}
 use Rattle.scan_cdp.specs.declared.Part.{Part}
 use Rattle.scan_cdp.specs.declared.Position.{Position}
 use Rattle.scan_cdp.specs.declared.Settings.{Settings}
@@ -33,24 +32,23 @@ read-whole h rest false e =
     length-take (payloadSize h) (drop 64 rest)
     ∙ omega (arith, length-drop 64 rest, ltb-false (length rest) (64 + payloadSize h) e)
 
--- As many bytes of a payload are handed out as are read.
+-- How many bytes of a payload are handed out.
 pub payload-length : (skip : Bool) (h : RdhCru) (rest : List ℕ)
-    → length (payloadOf skip HandedOut h rest) ≡ readSize skip (cut skip HandedOut h (length rest)) h
-unfolding payloadOf readSize cut
+    → length (payloadOf skip HandedOut h rest) ≡ pick (skip || cut skip HandedOut h (length rest)) 0 (payloadSize h)
+unfolding payloadOf cut
 payload-length true h rest = refl
 payload-length false h rest = read-whole h rest (ltb (length rest) (64 + payloadSize h)) refl
 
--- The answer with the payload as the part of the window that it is.
+-- The answer with the payload as the part of the window that it is. Only what is handed out has one.
 pub placed-answer : (start : ℕ) (skip : Bool) (t : Outcome) (h : RdhCru) (rest : List ℕ) (from position : Position)
     → placed start (answerIn t h (payloadOf skip t h rest) from position)
-    ≡ answerIn t h (partAt start (readSize skip (cut skip t h (length rest)) h)) from position
+    ≡ answerIn t h (partAt start (length (payloadOf skip HandedOut h rest))) from position
 placed-answer start skip FeeIdsFull h rest from position = refl
 placed-answer start skip BadOffset h rest from position = refl
 placed-answer start skip MemorySize h rest from position = refl
 placed-answer start skip NegativeSkip h rest from position = refl
 placed-answer start skip Passed h rest from position = refl
-placed-answer start skip HandedOut h rest from position =
-    ap (λ (n : ℕ). answerIn HandedOut h (partAt start n) from position) (payload-length skip h rest)
+placed-answer start skip HandedOut h rest from position = refl
 
 -- ---- the cases of the step
 
@@ -60,59 +58,79 @@ unfolding step
 step-ended set s feeIds rest end usable short = off _ _ usable ∙ on _ _ (lt-ltb (length rest) 64 short)
 
 pub step-header : (set : Settings) (s : State) (feeIds rest : List ℕ) (end : ℕ) → unusable s feeIds ≡ false → 64 ≤ length rest
-    → step set s feeIds rest end ≡ entryOf set (outcomeIn set (s .progress) feeIds (decoded rest)) s feeIds (decoded rest) rest end
+    → step set s feeIds rest end ≡ entryAt set s feeIds rest end
 unfolding step
 step-header set s feeIds rest end usable whole = off _ _ usable ∙ off _ _ (le-ltb (length rest) 64 whole)
 
--- ---- the cases of an examination
+-- ---- the cases of an examination, whatever refusal 6 is due by
 
-module _ (set : Settings) (s : State) (feeIds w : List ℕ) (first : ℕ) (last : Bool) where
+module _ (six : Bool) (set : Settings) (s : State) (feeIds w : List ℕ) (first : ℕ) (last : Bool) where
   abbrev pub place : ℕ
   place = s .progress .place .0
 
   abbrev pub rest : List ℕ
   rest = shown place first w
 
-  abbrev pub entry : Entry (List ℕ)
-  entry = step set s feeIds rest (first + length w)
+  pub unless-6 : (six || outside place first (length w)) ≡ true
+      → examinedUnless six set s feeIds w first last ≡ unchanged s feeIds (refuses 6 [])
+  unless-6 e = on _ _ e
 
-  pub refused-6 : (unusable s feeIds || outside place first (length w)) ≡ true
-      → examined set s feeIds w first last ≡ unchanged s feeIds (refuses 6 [])
-  unfolding examined
-  refused-6 e = on _ _ e
-
-  module _ (usable : unusable s feeIds ≡ false) (inside : outside place first (length w) ≡ false) where
-    no-6 : (unusable s feeIds || outside place first (length w)) ≡ false
+  module _ (usable : six ≡ false) (inside : outside place first (length w) ≡ false) where
+    no-6 : (six || outside place first (length w)) ≡ false
     no-6 = λ i. usable i || inside i
 
     -- fewer than 64 bytes: a want, or refusal 1
-    pub examined-short : length rest < 64
-        → examined set s feeIds w first last
-        ≡ pick last (ended s feeIds (first + length w)) (unchanged s feeIds (gives (wants (s .progress .place) 64)))
-    unfolding examined ended
-    examined-short short = off _ _ no-6 ∙ by-last last
+    pub unless-short : length rest < 64
+        → examinedUnless six set s feeIds w first last ≡ pick last (ended s feeIds (first + length w)) (wanting s feeIds 64)
+    unfolding ended
+    unless-short short = off _ _ no-6 ∙ by-last last
       where
+        ends : stepUnless six set s feeIds rest (first + length w) ≡ ended s feeIds (first + length w)
+        ends = off _ _ usable ∙ on _ _ (lt-ltb (length rest) 64 short)
+
         by-last : (b : Bool)
-            → pick (not b && ltb (length rest) 64) (unchanged s feeIds (gives (wants (s .progress .place) 64)))
-            (pick (not b && entry .marks .«payload_cut»)
-            (unchanged s feeIds (gives (wants (s .progress .place) (64 + payloadSize (decoded rest)))))
-            (located (place + 64 - first) entry))
-            ≡ pick b (ended s feeIds (first + length w)) (unchanged s feeIds (gives (wants (s .progress .place) 64)))
-        by-last true = ap (λ (e : Entry (List ℕ)). located (place + 64 - first) e) (step-ended set s feeIds rest (first + length w) usable short)
+            → pick (not b && ltb (length rest) 64) (wanting s feeIds 64)
+            (replyFor b s feeIds (decoded rest) (place + 64 - first) (stepUnless six set s feeIds rest (first + length w)))
+            ≡ pick b (ended s feeIds (first + length w)) (wanting s feeIds 64)
+        by-last true = ap (located (place + 64 - first)) ends
         by-last false = on _ _ (lt-ltb (length rest) 64 short)
 
-    -- a header: a want for its payload, or the step
-    pub examined-header : 64 ≤ length rest
-        → examined set s feeIds w first last
-        ≡ pick (not last && entry .marks .«payload_cut»)
-        (unchanged s feeIds (gives (wants (s .progress .place) (64 + payloadSize (decoded rest)))))
-        (located (place + 64 - first) entry)
-    unfolding examined
-    examined-header whole = off _ _ no-6 ∙ off _ _ (neither last)
+    -- a header: a want for its payload, or its entry
+    pub unless-header : 64 ≤ length rest
+        → examinedUnless six set s feeIds w first last
+        ≡ replyFor last s feeIds (decoded rest) (place + 64 - first) (entryAt set s feeIds rest (first + length w))
+    unless-header whole =
+        off _ _ no-6 ∙ off _ _ (neither last)
+        ∙ ap (replyFor last s feeIds (decoded rest) (place + 64 - first)) (off _ _ usable ∙ off _ _ (le-ltb (length rest) 64 whole))
       where
         neither : (b : Bool) → (not b && ltb (length rest) 64) ≡ false
         neither true = refl
         neither false = le-ltb (length rest) 64 whole
+
+-- ---- the cases of an examination
+
+module _ (set : Settings) (s : State) (feeIds w : List ℕ) (first : ℕ) (last : Bool) where
+  abbrev six : Bool
+  six = unusable s feeIds
+
+  pub refused-6 : (unusable s feeIds || outside (s .progress .place .0) first (length w)) ≡ true
+      → examined set s feeIds w first last ≡ unchanged s feeIds (refuses 6 [])
+  unfolding examined
+  refused-6 = unless-6 six set s feeIds w first last
+
+  module _ (usable : unusable s feeIds ≡ false) (inside : outside (s .progress .place .0) first (length w) ≡ false) where
+    pub examined-short : length (shown (s .progress .place .0) first w) < 64
+        → examined set s feeIds w first last
+        ≡ pick last (ended s feeIds (first + length w)) (unchanged s feeIds (gives (wants (s .progress .place) 64)))
+    unfolding examined
+    examined-short = unless-short six set s feeIds w first last usable inside
+
+    pub examined-header : 64 ≤ length (shown (s .progress .place .0) first w)
+        → examined set s feeIds w first last
+        ≡ replyFor last s feeIds (decoded (shown (s .progress .place .0) first w)) (s .progress .place .0 + 64 - first)
+        (entryAt set s feeIds (shown (s .progress .place .0) first w) (first + length w))
+    unfolding examined
+    examined-header = unless-header six set s feeIds w first last usable inside
 
 -- ---- the bytes of a part
 

@@ -1,3 +1,2 @@
-pub mod Stepping
-pub mod SteppingLaws
-pub mod ExaminedLaws
+pub mod Headers
+pub mod HeadersLaws

@@ -1,7 +1,11 @@
 // One examination, on the links and FEE ids where they stand. Whether a link is listed twice is not asked here: a load asks it once.
 ghost use mathlib.Core.Path.{_≡_};
-ghost use Rattle.scan_window.specs.Stepping.{stepOf, withLinks};
-ghost use Rattle.scan_step.specs.Stepping.{HeaderHere, Stepped, headerStepped, steppedByNumbers};
+ghost use lib.ListN.{length};
+ghost use Rattle.scan_cdp.specs.Steps.{numbersUnusable, withLinks};
+ghost use Rattle.scan_cdp.specs.Windows.{examinedUnless};
+ghost use Rattle.scan_window.specs.Examinations.{examinationOf};
+ghost use Rattle.scan_step.specs.Headers.{HeaderHere, RepliesFor, Stepped};
+use rdh::rdh_cru::RDH_CRU_SIZE_BYTES;
 use rdh::rdh_cru::RdhCru;
 use scan_cdp::BytePlace;
 use scan_cdp::Counts;
@@ -12,7 +16,7 @@ use scan_cdp::Position;
 use scan_cdp::Progress;
 use scan_cdp::Refusal;
 use scan_cdp::Settings;
-use scan_window::Step;
+use scan_window::Examination;
 use scan_window::WANTED_HEADER;
 use scan_window::lacking;
 use scan_window::list_fee_id;
@@ -22,7 +26,6 @@ use scan_window::outside;
 use scan_window::start_in;
 use scan_window::unchanged;
 use serde_rdh::FromBuf;
-use serde_rdh::RDH_CRU_SIZE_BYTES;
 
 // Examines the header at the byte place, on links and FEE ids where they stand, with refusal 6 by the numbers alone. The caller has asked
 // whether a link is listed twice; a step leaves that as it was.
@@ -34,9 +37,10 @@ pub fn take_step(
     window: &[u8],
     first: BytePlace,
     last: bool,
-) -> Step
-    ensures { λ r. ⌜ stepOf r (now (links .exit)) (now («fee_ids» .exit))
-        ≡ steppedByNumbers set (withLinks progress (now (links .entry))) (now («fee_ids» .entry)) (now (window .entry)) (first .0) last ⌝ }
+) -> Examination
+    ensures { λ r. ⌜ examinationOf r (now (links .exit)) (now («fee_ids» .exit))
+        ≡ examinedUnless (numbersUnusable progress (length (now (links .entry))) (length (now («fee_ids» .entry)))) set
+        (withLinks progress (now (links .entry))) (now («fee_ids» .entry)) (now (window .entry)) (first .0) last ⌝ }
 {
     let place = progress.place;
     if numbers_unusable(progress, links.len(), fee_ids.len()) {
@@ -72,10 +76,10 @@ fn header_step(
     start: usize,
     left: usize,
     last: bool,
-) -> Step
+) -> Examination
     requires { ⌜ HeaderHere progress start left ⌝ }
-    ensures { λ r. ⌜ stepOf r (now (links .exit)) (now («fee_ids» .exit))
-        ≡ headerStepped set (withLinks progress (now (links .entry))) (now («fee_ids» .entry)) rdh start left last ⌝ }
+    ensures { λ r. ⌜ RepliesFor set progress (now (links .entry)) (now («fee_ids» .entry)) rdh start left last
+        (examinationOf r (now (links .exit)) (now («fee_ids» .exit))) ⌝ }
 {
     let place = progress.place;
     let load = progress.load;
@@ -83,8 +87,8 @@ fn header_step(
     let fee_id = rdh.rdh0.fee_id.0;
     let full = set.stats & stats::fee_ids_full(fee_ids, progress.fee_ids_used, fee_id);
     let outcome = outcome::outcome_of(set, first, full, rdh);
-    if !last & outcome_counts::is_cut(set.skip_payload, outcome, rdh, left) {
-        let size = WANTED_HEADER + outcome_counts::payload_size(rdh.memory_size) as u64;
+    if !last & outcome_payload::is_cut(set.skip_payload, outcome, rdh, left) {
+        let size = WANTED_HEADER + rdh.payload_size() as u64;
         return unchanged(progress, LoadCdp::Want(place, size));
     }
     let due = set.stats & outcome::is_counted(first, outcome);
@@ -112,20 +116,20 @@ fn stepped(
     left: usize,
     links_used: usize,
     fee_ids_used: usize,
-) -> Step
+) -> Examination
     requires { ⌜ HeaderHere progress start left ⌝ }
     ensures { λ r. ⌜ Stepped set progress outcome rdh start left «links_used» «fee_ids_used» r ⌝ }
 {
     let load = progress.load;
     let position = progress.position;
     let first = outcome::is_first(load);
-    let cut = outcome_counts::is_cut(set.skip_payload, outcome, rdh, left);
-    let payload = outcome_counts::part(
+    let cut = outcome_payload::is_cut(set.skip_payload, outcome, rdh, left);
+    let payload = outcome_payload::part(
         start + RDH_CRU_SIZE_BYTES,
-        outcome_counts::read_size(set.skip_payload, cut, rdh),
+        outcome_payload::read_size(set.skip_payload, rdh, left),
     );
     let tally = outcome_counts::tallied(set, first, outcome, progress.counts, rdh);
-    Step {
+    Examination {
         answer: outcome_effects::answer(
             outcome,
             rdh,
@@ -143,7 +147,7 @@ fn stepped(
         progress: Progress {
             place: BytePlace(
                 progress.place.0
-                    + outcome_moves::place_moved(set.skip_payload, outcome, cut, rdh, left) as u64,
+                    + outcome_moves::place_moved(set.skip_payload, outcome, rdh, left) as u64,
             ),
             position: Position(position.0 + outcome_moves::position_moved(outcome, rdh)),
             load: outcome_moves::load_after(outcome, load, position),

@@ -1,2 +1,2 @@
-pub mod Stepping
-pub mod SteppingLaws
+pub mod Examinations
+pub mod ExaminationsLaws

@@ -1,11 +1,12 @@
 // What an examination does with a window and the lists that are lent: refusal 6 by numbers, the place in the window, replies that find no
 // header, the lists, and a payload as a part of the window.
 ghost use mathlib.Core.Path.{_≡_};
-ghost use Prim.Native.Nat.{max, min};
+ghost use Prim.Native.Nat.{min};
 ghost use Rattle.scan_cdp.specs.Answers.{loadAnswer};
-ghost use Rattle.scan_cdp.specs.Steps.{noMarks, placesListed, usedListed};
+ghost use Rattle.scan_cdp.specs.Steps.{noMarks, numbersUnusable, placesListed, usedListed};
 ghost use Rattle.scan_cdp.specs.Windows.{bytesAt, outside};
-ghost use Rattle.scan_window.specs.Stepping.{Lacking, Unchanged, numbersUnusable};
+ghost use Rattle.scan_window.specs.Examinations.{Lacking, Unchanged};
+use rdh::rdh_cru::RDH_CRU_SIZE_BYTES;
 use scan_cdp::BytePlace;
 use scan_cdp::Examined;
 use scan_cdp::Initial;
@@ -15,7 +16,6 @@ use scan_cdp::OpenLoad;
 use scan_cdp::Part;
 use scan_cdp::Progress;
 use scan_cdp::Refusal;
-use serde_rdh::RDH_CRU_SIZE_BYTES;
 
 // No place, position or window end is above it.
 const LIMIT: u64 = 1_152_921_504_606_846_976;
@@ -23,8 +23,8 @@ const LIMIT: u64 = 1_152_921_504_606_846_976;
 // The bytes that a want for a header asks for.
 pub const WANTED_HEADER: u64 = RDH_CRU_SIZE_BYTES as u64;
 
-// What an examination replies, but for the links.
-pub struct Step {
+// What the examination of one header replies. Links and FEE ids are left where they are lent.
+pub struct Examination {
     pub answer: Examined,
     pub marks: Marks,
     pub progress: Progress,
@@ -76,10 +76,10 @@ pub fn no_marks() -> Marks
 }
 
 // A call that changes nothing.
-pub fn unchanged(progress: Progress, answer: LoadCdp) -> Step
+pub fn unchanged(progress: Progress, answer: LoadCdp) -> Examination
     ensures { λ r. ⌜ Unchanged progress (loadAnswer answer) r ⌝ }
 {
-    Step {
+    Examination {
         answer: Examined::Answered(answer),
         marks: no_marks(),
         progress,
@@ -87,7 +87,7 @@ pub fn unchanged(progress: Progress, answer: LoadCdp) -> Step
 }
 
 // There are fewer than 64 bytes at the byte place: a want, or refusal 1, which moves the place to the end and closes the load.
-pub fn lacking(progress: Progress, end: u64, last: bool) -> Step
+pub fn lacking(progress: Progress, end: u64, last: bool) -> Examination
     ensures { λ r. ⌜ Lacking progress end last r ⌝ }
 {
     let place = progress.place;
@@ -96,11 +96,11 @@ pub fn lacking(progress: Progress, end: u64, last: bool) -> Step
     if !last {
         return unchanged(progress, LoadCdp::Want(place, WANTED_HEADER));
     }
-    Step {
+    Examination {
         answer: outcome_effects::refused(Refusal::End),
         marks: no_marks(),
         progress: Progress {
-            place: BytePlace(greater(place.0, end)),
+            place: BytePlace(numbers::greater(place.0, end)),
             position,
             load: OpenLoad::None,
             counts,
@@ -108,12 +108,6 @@ pub fn lacking(progress: Progress, end: u64, last: bool) -> Step
             fee_ids_used: progress.fee_ids_used,
         },
     }
-}
-
-fn greater(a: u64, b: u64) -> u64
-    ensures { λ r. ⌜ r ≡ max a b ⌝ }
-{
-    if a < b { b } else { a }
 }
 
 // Lists the link of a header that step 2 counted. Answers the used number after it.
@@ -142,13 +136,7 @@ pub fn list_fee_id(due: bool, fee_ids: &mut [u16], used: usize, fee_id: u16) -> 
 pub fn payload(window: &[u8], part: Part) -> &[u8]
     ensures { λ r. ⌜ now r ≡ bytesAt (now (window .entry)) part ⌝ }
 {
-    let start = least(part.start, window.len());
-    let end = start + least(part.length, window.len() - start);
+    let start = numbers::least(part.start, window.len());
+    let end = start + numbers::least(part.length, window.len() - start);
     &window[start..end]
-}
-
-fn least(a: usize, b: usize) -> usize
-    ensures { λ r. ⌜ r ≡ min a b ⌝ }
-{
-    if a < b { a } else { b }
 }

@@ -1,6 +1,6 @@
 -- The listing of what the structs say; the arrays hold what it leaves.
 use mathlib.Core.Path.{ap, _∙_}
-use Rattle.scan_window.specs.Stepping.{withLinks}
+use Rattle.scan_window.specs.Examinations.{withLinks}
 use Rattle.listing_batch.specs.Listings.{listedInto}
 use Rattle.doors_list.specs.Doors.{left, leftBy, listedThrough}
 use borrow.Author.Needs.{needs}

@@ -8,120 +8,140 @@ use lib.ListN.{length}
 use Rattle.basis.specs.Refusals.{refuses}
 use Rattle.scan_cdp.specs.Answers.{examinedAnswer}
 use Rattle.scan_cdp.specs.Loads.{isPassed, loaded, loadedFrom}
+use Rattle.scan_cdp.specs.Steps.{withLinks}
 use Rattle.scan_cdp.specs.declared.Examined.{Examined}
 use Rattle.scan_cdp.specs.declared.LoadMarks.{LoadMarks}
 use Rattle.scan_laws.specs.LoadTurnLaws.{LoadTurn, load-begins, load-ends, load-fee-ids, load-goes-on, load-passes, load-refused, not-passed}
-use Rattle.scan_step.specs.ExaminedLaws.{once-examined}
-use Rattle.scan_window.specs.Stepping.{withLinks}
-use Rattle.scan_window.specs.SteppingLaws.{twice-unusable}
+use Rattle.scan_window.specs.ExaminationsLaws.{once-examined, twice-unusable}
 use borrow.Author.Needs.{needs}
 use Rattle.input_scanner.proofs.load_cdp.Statement.{statement}
 use Rattle.input_scanner.proofs.load_cdp.Tie as tie
 
 abbrev Inv-loop : tie.InvT-loop
-Inv-loop set fee-ids₀ window first last progress₀ links₀ marks₀ fee-ids progress links marks =
+Inv-loop set links₀ fee-ids₀ window first last progress₀ marks₀ links fee-ids progress marks =
     LoadTurn set marks₀ (withLinks progress₀ links₀) fee-ids₀ window (first .0) last marks (withLinks progress links) fee-ids
 
 abbrev μ-loop : tie.MeasureT-loop
-μ-loop set fee-ids₀ window first last progress₀ links₀ marks₀ fee-ids progress links marks = first .0 + length window - progress .place .0
+μ-loop set links₀ fee-ids₀ window first last progress₀ marks₀ links fee-ids progress marks = first .0 + length window - progress .place .0
 
 no-load-marks-requires : tie.Need-no-load-marks-requires Inv-loop μ-loop
 no-load-marks-requires c κs = search needs
-
-slice-aggregate-has-link-twice : tie.Need-slice-aggregate-has-link-twice Inv-loop μ-loop
-slice-aggregate-has-link-twice c = search needs
 
 has-link-twice-requires : tie.Need-has-link-twice-requires Inv-loop μ-loop
 has-link-twice-requires c κs = search needs
 
 returns : tie.Need-returns Inv-loop μ-loop
 returns c =
-    let args = c .before .before .before .before .before .before .before .before .args in
+    let tested = c .before in
+    let begun = tested .before .before .before in
+    let args = begun .before .before .before .args in
+    let links = args .links .now in
     let fee-ids = args .fee-ids .now in
-    let w = args .window .now in
-    let six = twice-unusable (args .state) fee-ids (sym (c .before .has-link-twice .ensures) ∙ c .if1 .taken) in
-    (λ i. record { answer = refuses 6 []; marks = c .before .before .before .no-load-marks .ensures i; state = args .state; feeIds = fee-ids })
-    ∙ load-refused (args .set) (args .state) fee-ids w (args .first .0) (args .last) six
+    let s = withLinks (args .progress) links in
+    let six = twice-unusable s fee-ids (sym (tested .has-link-twice .ensures) ∙ c .if1 .taken) in
+    (λ i. record { answer = refuses 6 []; marks = begun .no-load-marks .ensures i; state = s; feeIds = fee-ids })
+    ∙ load-refused (args .set) s fee-ids (args .window .now) (args .first .0) (args .last) six
 
 loop-holds : tie.Need-loop-holds Inv-loop μ-loop
 loop-holds c =
-    let args = c .before .before .before .before .before .before .before .before .args in
-    let size : length (args .state .links) ≡ 256 = search needs in
-    load-begins (args .set) _ (args .state) (args .fee-ids .now) (args .window .now) (args .first .0) (args .last)
-    (sym (c .before .has-link-twice .ensures) ∙ c .if1 .left) size
-
-slice-aggregate-take-step : tie.Need-slice-aggregate-take-step Inv-loop μ-loop
-slice-aggregate-take-step c = sym (c .before .loop .inv .links)
+    let tested = c .before in
+    let args = tested .before .before .before .before .before .before .args in
+    load-begins (args .set) _ (withLinks (args .progress) (args .links .now)) (args .fee-ids .now) (args .window .now) (args .first .0) (args .last)
+    (sym (tested .has-link-twice .ensures) ∙ c .if1 .left)
 
 take-step-requires : tie.Need-take-step-requires Inv-loop μ-loop
 take-step-requires c κs = search needs
 
 together-requires : tie.Need-together-requires Inv-loop μ-loop
 together-requires c κs =
-    let none = ap (λ (ms : LoadMarks). ms .«seen_carries») (c .before .before .before .before .before .before .before .before .before .before .before .no-load-marks .ensures) in
-    omega (arith, c .before .before .before .before .before .before .before .loop .inv .carries, none, c .before .before .before .before .before .before .before .before .before .before .before .before .before .before .before .before .good .1 .1 .1 .0 .1)
+    let looped = c .before .before .before .before .before .before in
+    let begun = looped .before .before .before .before .before in
+    let none = ap (λ (ms : LoadMarks). ms .«seen_carries») (begun .no-load-marks .ensures) in
+    omega (arith, looped .loop .inv .carries, none, begun .before .before .before .good .1 .1 .1 .1 .0 .1)
 
 enum-told : tie.Need-enum-told Inv-loop μ-loop
 enum-told c = search needs
 
 loop-less : tie.Need-loop-less Inv-loop μ-loop
 loop-less c =
-    let args = c .before .before .before .before .before .before .before .before .before .before .before .before .before .before .before .before .before .before .before .before .args in
-    let loop = c .before .before .before .before .before .before .before .before .before .before .before .loop in
+    let stepped = c .before .before .before .before .before .before .before in
+    let looped = stepped .before .before .before in
+    let args = looped .before .before .before .before .before .before .before .before .args in
+    let loop = looped .loop in
+    let s₀ = withLinks (args .progress) (args .links .now) in
     let s = withLinks (loop .progress) (loop .links) in
-    let is = c .before .before .before .before .before .before .before .before .take-step .ensures ∙ once-examined (args .set) s (loop .fee-ids) (args .window .now) (args .first .0) (args .last) (loop .inv .once) in
+    let w = args .window .now in
+    let is =
+    stepped .take-step .ensures
+    ∙ once-examined (args .set) (loop .progress) (loop .links) (loop .fee-ids) w (args .first .0) (args .last) (loop .inv .once) in
     let passes = ap (λ (a : Examined). isPassed (examinedAnswer a)) (c .enum-told .given .1) in
     let on-it =
-    load-passes (args .set) _ (args .state) (args .fee-ids .now) (args .window .now) (args .first .0) (args .last) (loop .marks) s (loop .fee-ids)
-    (loop .inv) _ is passes in
+    load-passes (args .set) _ s₀ (args .fee-ids .now) w (args .first .0) (args .last) (loop .marks) s (loop .fee-ids) (loop .inv) _ is passes in
     omega (arith, on-it .starts, on-it .ends, on-it .least)
 
 loop-again : tie.Need-loop-again Inv-loop μ-loop
 loop-again c =
-    let args = c .before .before .before .before .before .before .before .before .before .before .before .before .before .before .before .before .before .before .before .before .args in
-    let loop = c .before .before .before .before .before .before .before .before .before .before .before .loop in
+    let stepped = c .before .before .before .before .before .before .before in
+    let looped = stepped .before .before .before in
+    let args = looped .before .before .before .before .before .before .before .before .args in
+    let loop = looped .loop in
+    let s₀ = withLinks (args .progress) (args .links .now) in
     let s = withLinks (loop .progress) (loop .links) in
-    let is = c .before .before .before .before .before .before .before .before .take-step .ensures ∙ once-examined (args .set) s (loop .fee-ids) (args .window .now) (args .first .0) (args .last) (loop .inv .once) in
+    let w = args .window .now in
+    let is =
+    stepped .take-step .ensures
+    ∙ once-examined (args .set) (loop .progress) (loop .links) (loop .fee-ids) w (args .first .0) (args .last) (loop .inv .once) in
     let passes = ap (λ (a : Examined). isPassed (examinedAnswer a)) (c .enum-told .given .1) in
+    let left = stepped .take-step .last in
     subst
     (λ (ms : LoadMarks).
-    LoadTurn (args .set) (c .before .before .before .before .before .before .before .before .before .before .before .before .before .before .before .no-load-marks .result) (args .state) (args .fee-ids .now) (args .window .now) (args .first .0) (args .last) ms
-    (withLinks (c .before .before .before .before .before .before .before .before .take-step .result .progress) (c .before .before .before .before .before .before .before .before .take-step .last .1 .1 .0)) (c .before .before .before .before .before .before .before .before .take-step .last .1 .1 .1 .0))
+    LoadTurn (args .set) (looped .before .before .before .before .before .no-load-marks .result) s₀ (args .fee-ids .now) w (args .first .0) (args .last) ms
+    (withLinks (stepped .take-step .result .progress) (left .1 .1 .0)) (left .1 .1 .1 .0))
     (sym (c .before .before .before .together .ensures))
-    (load-goes-on (args .set) _ (args .state) (args .fee-ids .now) (args .window .now) (args .first .0) (args .last) (loop .marks) s (loop .fee-ids)
-    (loop .inv) _ is passes)
+    (load-goes-on (args .set) _ s₀ (args .fee-ids .now) w (args .first .0) (args .last) (loop .marks) s (loop .fee-ids) (loop .inv) _ is passes)
 
 enum-known-answer : tie.Need-enum-known-answer Inv-loop μ-loop
 enum-known-answer c = search needs
 
 same-length : tie.Need-same-length Inv-loop μ-loop
 same-length c =
-    let args = c .before .before .before .before .before .before .before .before .before .before .before .before .before .before .before .before .before .before .before .before .before .args in
-    let loop = c .before .before .before .before .before .before .before .before .before .before .before .before .loop in
+    let stepped = c .before .before .before .before .before .before .before .before in
+    let looped = stepped .before .before .before in
+    let args = looped .before .before .before .before .before .before .before .before .args in
+    let loop = looped .loop in
+    let s₀ = withLinks (args .progress) (args .links .now) in
     let s = withLinks (loop .progress) (loop .links) in
-    let is = c .before .before .before .before .before .before .before .before .before .take-step .ensures ∙ once-examined (args .set) s (loop .fee-ids) (args .window .now) (args .first .0) (args .last) (loop .inv .once) in
-    load-fee-ids (args .set) _ (args .state) (args .fee-ids .now) (args .window .now) (args .first .0) (args .last) (loop .marks) s (loop .fee-ids)
-    (loop .inv) _ is
+    let w = args .window .now in
+    let is =
+    stepped .take-step .ensures
+    ∙ once-examined (args .set) (loop .progress) (loop .links) (loop .fee-ids) w (args .first .0) (args .last) (loop .inv .once) in
+    load-fee-ids (args .set) _ s₀ (args .fee-ids .now) w (args .first .0) (args .last) (loop .marks) s (loop .fee-ids) (loop .inv) _ is
 
 returns-2 : tie.Need-returns-2 Inv-loop μ-loop
 unfolding loaded
 returns-2 c =
-    let args = c .before .before .before .before .before .before .before .before .before .before .before .before .before .before .before .before .before .before .before .before .before .args in
-    let loop = c .before .before .before .before .before .before .before .before .before .before .before .before .loop in
+    let stepped = c .before .before .before .before .before .before .before .before in
+    let looped = stepped .before .before .before in
+    let args = looped .before .before .before .before .before .before .before .before .args in
+    let loop = looped .loop in
+    let s₀ = withLinks (args .progress) (args .links .now) in
     let s = withLinks (loop .progress) (loop .links) in
-    let is = c .before .before .before .before .before .before .before .before .before .take-step .ensures ∙ once-examined (args .set) s (loop .fee-ids) (args .window .now) (args .first .0) (args .last) (loop .inv .once) in
+    let w = args .window .now in
+    let is =
+    stepped .take-step .ensures
+    ∙ once-examined (args .set) (loop .progress) (loop .links) (loop .fee-ids) w (args .first .0) (args .last) (loop .inv .once) in
     let told = c .before .answer .given .1 in
     let stops = ap (λ (a : Examined). isPassed (examinedAnswer a)) told ∙ not-passed (c .before .answer .given .0 .0) in
+    let left = stepped .take-step .last in
     (λ i. record {
       answer = sym (ap (λ (a : Examined). examinedAnswer a) told) i;
       marks = c .before .before .before .before .together .ensures i;
-      state = withLinks (c .before .before .before .before .before .before .before .before .before .take-step .result .progress) (c .before .before .before .before .before .before .before .before .before .take-step .last .1 .1 .0);
-      feeIds = c .before .before .before .before .before .before .before .before .before .take-step .last .1 .1 .1 .0;
+      state = withLinks (stepped .take-step .result .progress) (left .1 .1 .0);
+      feeIds = left .1 .1 .1 .0;
     })
-    ∙ load-ends (args .set) _ (args .state) (args .fee-ids .now) (args .window .now) (args .first .0) (args .last) (loop .marks) s (loop .fee-ids)
-    (loop .inv) _ is stops
-    ∙ ap (λ (ms : LoadMarks). loadedFrom (length (args .window .now) / 64 + 1) (args .set) ms (args .state) (args .fee-ids .now) (args .window .now) (args .first .0) (args .last))
-    (c .before .before .before .before .before .before .before .before .before .before .before .before .before .before .before .before .no-load-marks .ensures)
+    ∙ load-ends (args .set) _ s₀ (args .fee-ids .now) w (args .first .0) (args .last) (loop .marks) s (loop .fee-ids) (loop .inv) _ is stops
+    ∙ ap (λ (ms : LoadMarks). loadedFrom (length w / 64 + 1) (args .set) ms s₀ (args .fee-ids .now) w (args .first .0) (args .last))
+    (looped .before .before .before .before .before .no-load-marks .ensures)
 
 pub load-cdp-spec : {M : Type 1} → statement M
 load-cdp-spec =
@@ -130,11 +150,9 @@ load-cdp-spec =
     Inv-loop
     μ-loop
     no-load-marks-requires
-    slice-aggregate-has-link-twice
     has-link-twice-requires
     returns
     loop-holds
-    slice-aggregate-take-step
     take-step-requires
     together-requires
     enum-told

@@ -13,6 +13,9 @@ filter-enabled-requires c κs = search needs
 payload-size-requires : tie.Need-payload-size-requires
 payload-size-requires c κs = search needs
 
+cast-size : tie.Need-cast-size
+cast-size c = search needs
+
 is-counted-requires : tie.Need-is-counted-requires
 is-counted-requires c κs = search needs
 
@@ -34,16 +37,19 @@ raised-requires-3 c κs = search needs
 returns : tie.Need-returns
 unfolding tallied
 returns c =
-    let args = c .before .before .before .before .before .before .before .before .before .before .before .args in
+    let filtered = c .before .before .before in
+    let seen = filtered .before .before .before in
+    let sized = seen .before .before .before in
+    let args = sized .before .before .args in
     let stats = args .set .stats in
     λ i. record {
-      seen = (c .before .before .before .before .before .before .raised .ensures ∙ ap (λ (b : Bool). raised (stats && b) (args .counts .seen) 1) (c .before .before .before .before .before .before .before .before .is-counted .ensures)) i;
+      seen = (seen .raised .ensures ∙ ap (λ (b : Bool). raised (stats && b) (args .counts .seen) 1) (seen .before .before .is-counted .ensures)) i;
       filtered =
-          (c .before .before .before .raised2 .ensures
-          ∙ (λ j. raised (stats && c .before .before .before .before .before .before .before .before .before .before .filter-enabled .ensures j && c .before .before .before .before .is-match .ensures j) (args .counts .filtered) 1)) i;
+          (filtered .raised2 .ensures
+          ∙ (λ j. raised (stats && sized .before .filter-enabled .ensures j && filtered .before .is-match .ensures j) (args .counts .filtered) 1)) i;
       payload =
           (c .raised3 .ensures
-          ∙ (λ j. raised (stats && c .before .before .hands-out .ensures j) (args .counts .payload) (c .before .before .before .before .before .before .before .before .before .payload-size .ensures j))) i;
+          ∙ (λ j. raised (stats && c .before .before .hands-out .ensures j) (args .counts .payload) (sized .payload-size .ensures j))) i;
     }
 
 pub tallied-spec : {M : Type 1} → statement M
@@ -52,6 +58,7 @@ tallied-spec =
     (tie.spec
     filter-enabled-requires
     payload-size-requires
+    cast-size
     is-counted-requires
     raised-requires
     is-match-requires

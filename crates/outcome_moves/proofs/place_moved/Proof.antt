@@ -1,6 +1,8 @@
 -- Each arm is one case.
-use mathlib.Core.Path.{refl}
+use Prim.Native.Nat.{ℕ, _+_}
+use mathlib.Core.Path.{refl, ap}
 use native.Mathlib.Omega.{arith}
+use Rattle.scan_cdp.specs.Steps.{placeAfter}
 use borrow.Author.Needs.{needs}
 use Rattle.outcome_moves.proofs.place_moved.Statement.{statement}
 use Rattle.outcome_moves.proofs.place_moved.Tie as tie
@@ -30,19 +32,25 @@ read-moved-requires : tie.Need-read-moved-requires
 read-moved-requires c κs = search needs
 
 returns : tie.Need-returns
-returns c = (rw (c .enum-told .given .1) refl, omega arith)
+unfolding placeAfter
+returns c = (λ place. rw (c .enum-told .given .1) refl, omega arith)
 
 returns-2 : tie.Need-returns-2
-returns-2 c = (rw (c .enum-told2 .given .1) refl, omega arith)
+unfolding placeAfter
+returns-2 c = (λ place. rw (c .enum-told2 .given .1) refl, omega arith)
 
 returns-3 : tie.Need-returns-3
-returns-3 c = (rw (c .enum-told3 .given .1) refl, omega arith)
+unfolding placeAfter
+returns-3 c = (λ place. rw (c .enum-told3 .given .1) refl, omega arith)
 
 returns-4 : tie.Need-returns-4
-returns-4 c = (rw (c .enum-told4 .given .1) refl, omega arith)
+unfolding placeAfter
+returns-4 c = (λ place. rw (c .enum-told4 .given .1) refl, omega arith)
 
 returns-5 : tie.Need-returns-5
-returns-5 c = (rw (c .before .enum-told5 .given .1) (c .wide .ensures .0), omega (arith, c .wide .ensures .1))
+unfolding placeAfter
+returns-5 c =
+    (λ place. rw (c .before .enum-told5 .given .1) (ap (λ (n : ℕ). place + n) (c .wide .ensures .0)), omega (arith, c .wide .ensures .1))
 
 returns-6 : tie.Need-returns-6
 returns-6 c = (rw (c .before .enum-told6 .given .1) (c .read-moved .ensures .0), c .read-moved .ensures .1)

@@ -1,5 +1,6 @@
 -- Each arm is one case.
-use mathlib.Core.Path.{refl}
+use Prim.Native.Nat.{ℕ, _+_}
+use mathlib.Core.Path.{_≡_, ap}
 use native.Mathlib.Omega.{arith}
 use borrow.Author.Needs.{needs}
 use Rattle.outcome_moves.proofs.position_moved.Statement.{statement}
@@ -29,23 +30,29 @@ enum-told-6 c = search needs
 wide-requires-2 : tie.Need-wide-requires-2
 wide-requires-2 c κs = search needs
 
+-- nothing is added to a position that stays
+stays : (position : ℕ) → position + 0 ≡ position
+stays position = omega arith
+
 returns : tie.Need-returns
-returns c = (rw (c .enum-told .given .1) refl, omega arith)
+returns c = (λ position. rw (c .enum-told .given .1) (stays position), omega arith)
 
 returns-2 : tie.Need-returns-2
-returns-2 c = (rw (c .enum-told2 .given .1) refl, omega arith)
+returns-2 c = (λ position. rw (c .enum-told2 .given .1) (stays position), omega arith)
 
 returns-3 : tie.Need-returns-3
-returns-3 c = (rw (c .enum-told3 .given .1) refl, omega arith)
+returns-3 c = (λ position. rw (c .enum-told3 .given .1) (stays position), omega arith)
 
 returns-4 : tie.Need-returns-4
-returns-4 c = (rw (c .enum-told4 .given .1) refl, omega arith)
+returns-4 c = (λ position. rw (c .enum-told4 .given .1) (stays position), omega arith)
 
 returns-5 : tie.Need-returns-5
-returns-5 c = (rw (c .before .enum-told5 .given .1) (c .wide .ensures .0), c .wide .ensures .1)
+returns-5 c =
+    (λ position. rw (c .before .enum-told5 .given .1) (ap (λ (n : ℕ). position + n) (c .wide .ensures .0)), c .wide .ensures .1)
 
 returns-6 : tie.Need-returns-6
-returns-6 c = (rw (c .before .enum-told6 .given .1) (c .wide2 .ensures .0), c .wide2 .ensures .1)
+returns-6 c =
+    (λ position. rw (c .before .enum-told6 .given .1) (ap (λ (n : ℕ). position + n) (c .wide2 .ensures .0)), c .wide2 .ensures .1)
 
 pub position-moved-spec : {M : Type 1} → statement M
 position-moved-spec =

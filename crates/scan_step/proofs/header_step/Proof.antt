@@ -4,18 +4,16 @@ use mathlib.Core.Bool.{Bool, true, false, not, _&&_}
 use mathlib.Core.Path.{_≡_, ap, sym, subst, _∙_}
 use mathlib.Core.List.{List}
 use Rattle.rdh.specs.declared.rdh_cru.RdhCru.{RdhCru}
-use Rattle.basis.specs.Refusals.{gives}
 use Rattle.stats.specs.Lists.{full}
-use Rattle.scan_cdp.specs.Answers.{wants}
-use Rattle.scan_cdp.specs.Steps.{cut, isFirst, lists, placesListed, outcomeIn, unchanged, usedListed}
+use Rattle.scan_cdp.specs.Steps.{cut, isFirst, lists, outcomeIn, placesListed, usedListed, withLinks}
 use Rattle.scan_cdp.specs.Outcomes.{isCounted, feeId, outcomeOf}
 use Rattle.scan_cdp.specs.declared.Progress.{Progress}
 use Rattle.scan_cdp.specs.declared.Settings.{Settings}
 use Rattle.scan_cdp.specs.declared.Outcome.{Outcome}
-use Rattle.scan_window.specs.Stepping.{withLinks}
-use Rattle.scan_step.specs.Stepping.{Stepped}
-use Rattle.scan_window.specs.SteppingLaws.{nothing-changed}
-use Rattle.scan_step.specs.SteppingLaws.{header-entered, header-wanted}
+use Rattle.scan_cdp.specs.Windows.{wanting}
+use Rattle.scan_step.specs.Headers.{Stepped}
+use Rattle.scan_window.specs.ExaminationsLaws.{nothing-changed}
+use Rattle.scan_step.specs.HeadersLaws.{header-entered, header-wanted}
 use borrow.Author.Needs.{needs}
 use Rattle.scan_step.proofs.header_step.Statement.{statement}
 use Rattle.scan_step.proofs.header_step.Tie as tie
@@ -65,18 +63,22 @@ same-length c = search needs
 
 returns : tie.Need-returns
 returns c =
-    let args = c .before .before .before .before .before .before .before .before .before .before .before .before .args in
+    let cut = c .before .before .before in
+    let told = cut .before in
+    let room = told .before .before in
+    let started = room .before .before in
+    let args = started .before .before .before .before .args in
     let set = args .set in
     let p = args .progress in
     let links = args .links .now in
     let fee-ids = args .fee-ids .now in
     let h = args .rdh in
-    let first = c .before .before .before .before .before .before .before .before .is-first .ensures in
-    let t = outcome-is set p fee-ids h first (c .before .before .before .before .before .before .fee-ids-full .ensures) (c .before .before .before .before .outcome-of .ensures) in
-    let wanted = wanted-is set h (args .left) (args .last) t (c .before .before .before .is-cut .ensures) in
+    let t = outcome-is set p fee-ids h (started .is-first .ensures) (room .fee-ids-full .ensures) (told .outcome-of .ensures) in
+    let wanted = sym (wanted-is set h (args .left) (args .last) t (cut .is-cut .ensures)) ∙ c .before .before .if1 .taken in
+    λ rest size.
     nothing-changed (c .unchanged .ensures) links fee-ids
-    ∙ ap (λ (n : ℕ). unchanged (withLinks p links) fee-ids (gives (wants (p .place) (64 + n)))) (c .before .payload-size .ensures)
-    ∙ sym (header-wanted set p links fee-ids h (args .start) (args .left) (args .last) (sym wanted ∙ c .before .before .if1 .taken))
+    ∙ ap (λ (n : ℕ). wanting (withLinks p links) fee-ids (64 + n)) (c .before .payload-size .ensures)
+    ∙ header-wanted set p links fee-ids h (args .start) (args .left) (args .last) wanted rest size
 
 is-counted-requires : tie.Need-is-counted-requires
 is-counted-requires c κs = search needs
@@ -98,19 +100,26 @@ same-length-3 c = search needs
 
 returns-2 : tie.Need-returns-2
 returns-2 c =
-    let args = c .before .before .before .before .before .before .before .before .before .before .before .before .before .before .before .before .before .before .before .before .before .args in
+    let fee-listed = c .before .before .before in
+    let link-listed = fee-listed .before .before .before .before in
+    let counted = link-listed .before .before .before in
+    let cut = counted .before .before in
+    let told = cut .before in
+    let room = told .before .before in
+    let started = room .before .before in
+    let args = started .before .before .before .before .args in
     let set = args .set in
     let p = args .progress in
     let links = args .links .now in
     let fee-ids = args .fee-ids .now in
     let h = args .rdh in
-    let first = c .before .before .before .before .before .before .before .before .before .before .before .before .before .before .before .before .before .is-first .ensures in
-    let t = outcome-is set p fee-ids h first (c .before .before .before .before .before .before .before .before .before .before .before .before .before .before .before .fee-ids-full .ensures) (c .before .before .before .before .before .before .before .before .before .before .before .before .before .outcome-of .ensures) in
-    let wanted = wanted-is set h (args .left) (args .last) t (c .before .before .before .before .before .before .before .before .before .before .before .before .is-cut .ensures) in
-    let due = counted-is set p first t (c .before .before .before .before .before .before .before .before .before .before .is-counted .ensures) in
-    let link = c .before .before .before .before .before .before .before .list-link in
-    let fee = c .before .before .before .list-fee-id in
-    header-entered set p links fee-ids h (args .start) (args .left) (args .last) (sym wanted ∙ c .before .before .before .before .before .before .before .before .before .before .before .if1 .left) _ _ _ _
+    let first = started .is-first .ensures in
+    let t = outcome-is set p fee-ids h first (room .fee-ids-full .ensures) (told .outcome-of .ensures) in
+    let not-wanted = sym (wanted-is set h (args .left) (args .last) t (cut .is-cut .ensures)) ∙ counted .before .if1 .left in
+    let due = counted-is set p first t (counted .is-counted .ensures) in
+    let link = link-listed .list-link in
+    let fee = fee-listed .list-fee-id in
+    header-entered set p links fee-ids h (args .start) (args .left) (args .last) not-wanted _ _ _ _
     (subst (λ (u : Outcome). Stepped set p u h (args .start) (args .left) (link .result) (fee .result) (c .stepped .result)) t (c .stepped .ensures))
     (link .ensures .0 ∙ (λ i. usedListed (due i) (h .«link_id») (p .«links_used») links))
     (link .ensures .1 ∙ (λ i. placesListed (due i) (h .«link_id») (p .«links_used») links))

@@ -1,14 +1,14 @@
 -- Each field is what its function ensures, at the same outcome and cut.
 use Prim.Native.Nat.{ℕ, _+_}
 use mathlib.Core.Bool.{Bool}
-use mathlib.Core.Path.{_≡_, ap, _∙_}
+use mathlib.Core.List.{List}
+use mathlib.Core.Path.{_≡_, ap, sym, _∙_}
 use native.Mathlib.Omega.{arith}
-use Rattle.scan_cdp.specs.Moves.{movedBy, readSize}
-use Rattle.scan_laws.specs.MoveLaws.{place-moved, position-moved}
-use Rattle.scan_cdp.specs.Steps.{answerIn, initialOf, marksOf, progressAfter, startOf, tallied}
+use lib.ListN.{length}
+use Rattle.scan_cdp.specs.Steps.{answerIn, initialOf, marksOf, payloadOf, progressAfter, startOf, tallied}
 use Rattle.scan_cdp.specs.Windows.{partAt}
-use Rattle.scan_cdp.specs.declared.Part.{Part}
-use Rattle.scan_cdp.specs.declared.Tally.{Tally}
+use Rattle.scan_cdp.specs.declared.Outcome.the-variants.{HandedOut}
+use Rattle.scan_laws.specs.WindowLaws.{placed-answer}
 use borrow.Author.Needs.{needs}
 use Rattle.scan_step.proofs.stepped.Statement.{statement}
 use Rattle.scan_step.proofs.stepped.Tie as tie
@@ -45,14 +45,18 @@ place-moved-requires c κs = search needs
 
 add-t22 : tie.Need-add-t22
 add-t22 c =
-    record { fits = omega (arith, c .before .place-moved .ensures .1, c .before .before .before .before .before .before .before .before .before .before .before .pre .place, c .before .before .before .before .before .before .before .before .before .before .before .pre .inside) }
+    let cut = c .before .before .before .before .before .before .before .before in
+    let pre = cut .before .before .before .pre in
+    record { fits = omega (arith, c .before .place-moved .ensures .1, pre .place, pre .inside) }
 
 position-moved-requires : tie.Need-position-moved-requires
 position-moved-requires c κs = search needs
 
 add-t25 : tie.Need-add-t25
 add-t25 c =
-    record { fits = omega (arith, c .before .position-moved .ensures .1, c .before .before .before .before .before .before .before .before .before .before .before .before .before .pre .position) }
+    let marked = c .before .before .before .before in
+    let cut = marked .before .before .before .before .before .before in
+    record { fits = omega (arith, c .before .position-moved .ensures .1, cut .before .before .before .pre .position) }
 
 load-after-requires : tie.Need-load-after-requires
 load-after-requires c κs = search needs
@@ -60,39 +64,41 @@ load-after-requires c κs = search needs
 returns : tie.Need-returns
 unfolding marksOf progressAfter
 returns c =
-    let args = c .before .before .before .before .before .before .before .before .before .before .before .before .before .before .args in
+    let position = c .before .before in
+    let place = position .before .before in
+    let initial = place .before in
+    let answered = initial .before in
+    let started = answered .before in
+    let counted = started .before in
+    let parted = counted .before in
+    let sized = parted .before in
+    let cut = sized .before in
+    let args = cut .before .before .before .args in
     let set = args .set in
     let p = args .progress in
     let t = args .outcome in
     let h = args .rdh in
     let skip = set .«skip_payload» in
-    let first = c .before .before .before .before .before .before .before .before .before .before .before .before .is-first .ensures in
-    let short = c .before .before .before .before .before .before .before .before .before .before .before .is-cut .ensures in
-    let payload : c .before .before .before .before .before .before .before .before .before .part .result ≡ partAt (args .start + 64) (readSize skip (c .before .before .before .before .before .before .before .before .before .before .before .is-cut .result) h) =
-    c .before .before .before .before .before .before .before .before .before .part .ensures ∙ ap (λ (n : ℕ). partAt (args .start + 64) n) (c .before .before .before .before .before .before .before .before .before .before .read-size .ensures) in
-    let tally = c .before .before .before .before .before .before .before .before .tallied .ensures ∙ ap (λ (b : Bool). tallied set b t (p .counts) h) first in
+    let first = cut .before .is-first .ensures in
+    let payload : (rest : List ℕ) → length rest ≡ args .left
+    → parted .part .result ≡ partAt (args .start + 64) (length (payloadOf skip HandedOut h rest)) =
+    λ rest size. parted .part .ensures ∙ ap (partAt (args .start + 64)) (sized .read-size .ensures rest size) in
+    let tally = counted .tallied .ensures ∙ ap (λ (b : Bool). tallied set b t (p .counts) h) first in
     record {
-      answer =
-          c .before .before .before .before .before .before .answer .ensures
-          ∙ (λ i. answerIn t h (payload i) (c .before .before .before .before .before .before .before .start-of .ensures i) (p .position))
-          ∙ ap (λ (b : Bool). answerIn t h (partAt (args .start + 64) (readSize skip b h)) (startOf (p .load) (p .position)) (p .position)) short;
+      answer = λ rest size.
+          answered .answer .ensures
+          ∙ (λ i. answerIn t h (payload rest size i) (started .start-of .ensures i) (p .position))
+          ∙ sym (placed-answer (args .start + 64) skip t h rest (startOf (p .load) (p .position)) (p .position));
       marks = λ i. record {
-        initial = (c .before .before .before .before .before .initial-collect-stats .ensures ∙ ap (λ (b : Bool). initialOf (set .stats) b (p .position) h) first) i;
+        initial = (initial .initial-collect-stats .ensures ∙ ap (λ (b : Bool). initialOf (set .stats) b (p .position) h) first) i;
         «seen_carry» = tally i .seen .carry;
         «filtered_carry» = tally i .filtered .carry;
         «payload_carry» = tally i .payload .carry;
-        «payload_cut» = short i;
+        «payload_cut» = cut .is-cut .ensures i;
       };
       progress = λ i. record {
-        place = record {
-          0 =
-              (ap (λ (n : ℕ). p .place .0 + n) (c .before .before .before .before .place-moved .ensures .0 ∙ ap (λ (b : Bool). movedBy skip t b h (args .left)) short)
-              ∙ place-moved skip t h (p .place .0) (args .left)) i;
-        };
-        position = record {
-          0 =
-              (ap (λ (n : ℕ). p .position .0 + n) (c .before .before .position-moved .ensures .0) ∙ position-moved t h (p .position .0)) i;
-        };
+        place = record { 0 = place .place-moved .ensures .0 (p .place .0) i };
+        position = record { 0 = position .position-moved .ensures .0 (p .position .0) i };
         load = c .load-after .ensures i;
         counts = record { seen = tally i .seen .value; filtered = tally i .filtered .value; payload = tally i .payload .value };
         «links_used» = args .links-used;

@@ -11,9 +11,9 @@ use Rattle.serde_rdh.specs.Layout.{decode}
 use Rattle.serde_rdh.specs.LayoutLaws.{decode-given}
 use Rattle.serde_rdh.specs.Refusals.{decodeAnswer}
 use Rattle.serde_rdh.specs.declared.FromBuf.{FromBuf}
-use Rattle.scan_window.specs.Stepping.{numbersUnusable}
-use Rattle.scan_window.specs.SteppingLaws.{inside, nothing-changed}
-use Rattle.scan_step.specs.SteppingLaws.{stepped-decoded, stepped-lacking, stepped-refused, within}
+use Rattle.scan_cdp.specs.Steps.{numbersUnusable}
+use Rattle.scan_window.specs.ExaminationsLaws.{inside, nothing-changed}
+use Rattle.scan_step.specs.HeadersLaws.{stepped-decoded, stepped-lacking, stepped-refused, within}
 use borrow.Author.Needs.{needs}
 use Rattle.scan_step.proofs.take_step.Statement.{statement}
 use Rattle.scan_step.proofs.take_step.Tie as tie
@@ -30,12 +30,13 @@ unchanged-requires c κs = search needs
 
 returns : tie.Need-returns
 returns c =
-    let args = c .before .before .before .before .before .before .before .args in
+    let tested = c .before .before in
+    let args = tested .before .before .before .before .before .args in
     let p = args .progress in
     let links = args .links .now in
     let fee-ids = args .fee-ids .now in
     let w = args .window .now in
-    let six = sym (c .before .before .numbers-unusable .ensures) ∙ c .before .if1 .taken in
+    let six = sym (tested .numbers-unusable .ensures) ∙ c .before .if1 .taken in
     nothing-changed (c .unchanged .ensures) links fee-ids
     ∙ sym (stepped-refused (args .set) p links fee-ids w (args .first .0) (args .last)
     (ap (λ (b : Bool). b || outside (p .place .0) (args .first .0) (length w)) six))
@@ -48,21 +49,22 @@ unchanged-requires-2 c κs = search needs
 
 returns-2 : tie.Need-returns-2
 returns-2 c =
-    let args = c .before .before .before .before .before .before .before .before .before .args in
+    let looked = c .before .before in
+    let args = looked .before .before .before .before .before .before .before .args in
     let p = args .progress in
     let links = args .links .now in
     let fee-ids = args .fee-ids .now in
     let w = args .window .now in
-    let six = sym (c .before .before .before .before .numbers-unusable .ensures) ∙ c .before .before .before .if1 .left in
+    let numbers = numbersUnusable p (length links) (length fee-ids) in
     nothing-changed (c .unchanged2 .ensures) links fee-ids
     ∙ sym (stepped-refused (args .set) p links fee-ids w (args .first .0) (args .last)
-    (ap (λ (b : Bool). numbersUnusable p (length links) (length fee-ids) || b) (sym (c .before .before .outside .ensures) ∙ c .before .if2 .taken)
-    ∙ or-true (numbersUnusable p (length links) (length fee-ids))))
+    (ap (λ (b : Bool). numbers || b) (sym (looked .outside .ensures) ∙ c .before .if2 .taken) ∙ or-true numbers))
 
 sub-start-in : tie.Need-sub-start-in
 sub-start-in c =
-    let args = c .before .before .before .before .before .before .before .before .before .before .args in
-    inside (args .progress .place .0) (args .first .0) (length (args .window .now)) (sym (c .before .before .before .outside .ensures) ∙ c .before .before .if2 .left) .starts
+    let looked = c .before .before .before in
+    let args = looked .before .before .before .before .before .before .before .args in
+    inside (args .progress .place .0) (args .first .0) (length (args .window .now)) (sym (looked .outside .ensures) ∙ c .before .before .if2 .left) .starts
 
 start-in-requires : tie.Need-start-in-requires
 start-in-requires c κs = search needs
@@ -84,8 +86,10 @@ enum-told c = search needs
 
 add-lacking : tie.Need-add-lacking
 add-lacking c =
-    let args = c .before .before .before .before .before .before .before .before .before .before .before .before .before .before .before .before .args in
-    let window = inside (args .progress .place .0) (args .first .0) (length (args .window .now)) (sym (c .before .before .before .before .before .before .before .before .before .outside .ensures) ∙ c .before .before .before .before .before .before .before .before .if2 .left) in
+    let passed = c .before .before .before .before .before .before .before .before in
+    let looked = passed .before in
+    let args = looked .before .before .before .before .before .before .before .args in
+    let window = inside (args .progress .place .0) (args .first .0) (length (args .window .now)) (sym (looked .outside .ensures) ∙ passed .if2 .left) in
     record { fits = omega (arith, window .ends) }
 
 lacking-requires : tie.Need-lacking-requires
@@ -99,36 +103,45 @@ sub-header-step c = search needs
 
 header-step-requires : tie.Need-header-step-requires
 header-step-requires c κs =
-    let args = c .before .before .before .before .before .before .before .before .before .before .before .before .before .before .before .before .before .before .args in
+    let read = c .before .before .before .before .before in
+    let found = read .before .before in
+    let passed = found .before .before .before in
+    let looked = passed .before in
+    let numbered = looked .before .before in
+    let args = numbered .before .before .before .before .before .args in
     let p = args .progress in
-    let links = args .links .now in
-    let fee-ids = args .fee-ids .now in
     let w = args .window .now in
-    let six = sym (c .before .before .before .before .before .before .before .before .before .before .before .before .before .numbers-unusable .ensures) ∙ c .before .before .before .before .before .before .before .before .before .before .before .before .if1 .left in
-    let window = inside (p .place .0) (args .first .0) (length w) (sym (c .before .before .before .before .before .before .before .before .before .before .before .outside .ensures) ∙ c .before .before .before .before .before .before .before .before .before .before .if2 .left) in
-    let numbers = within p (length links) (length fee-ids) six in
-    let start = c .before .before .before .before .before .before .before .start-in .result in
-    let header = sym (ap (λ (r : FromBuf). decodeAnswer r) (c .before .before .before .rdh .given .1)) ∙ c .before .before .before .before .before .from-buf .ensures ∙ to-the-end w start in
+    let six = sym (numbered .numbers-unusable .ensures) ∙ looked .before .if1 .left in
+    let window = inside (p .place .0) (args .first .0) (length w) (sym (looked .outside .ensures) ∙ passed .if2 .left) in
+    let numbers = within p (length (args .links .now)) (length (args .fee-ids .now)) six in
+    let start = found .start-in .result in
+    let header = sym (ap (λ (r : FromBuf). decodeAnswer r) (c .before .before .before .rdh .given .1)) ∙ read .from-buf .ensures ∙ to-the-end w start in
     let whole = decode-given (drop start w) _ header .0 in
     record {
       place = numbers .place;
       position = numbers .position;
-      inside = omega (arith, window .ends, c .before .before .before .before .before .before .before .start-in .ensures);
+      inside = omega (arith, window .ends, found .start-in .ensures);
       whole = omega (arith, whole, length-drop start w);
     }
 
 returns-3 : tie.Need-returns-3
 returns-3 c =
-    let args = c .before .before .before .before .before .before .before .before .before .before .before .before .before .before .before .before .before .args in
+    let read = c .before .before .before .before in
+    let found = read .before .before in
+    let passed = found .before .before .before in
+    let looked = passed .before in
+    let numbered = looked .before .before in
+    let args = numbered .before .before .before .before .before .args in
     let p = args .progress in
     let links = args .links .now in
     let fee-ids = args .fee-ids .now in
     let w = args .window .now in
-    let six = sym (c .before .before .before .before .before .before .before .before .before .before .before .before .numbers-unusable .ensures) ∙ c .before .before .before .before .before .before .before .before .before .before .before .if1 .left in
-    let window = sym (c .before .before .before .before .before .before .before .before .before .before .outside .ensures) ∙ c .before .before .before .before .before .before .before .before .before .if2 .left in
+    let six = sym (numbered .numbers-unusable .ensures) ∙ looked .before .if1 .left in
+    let window = sym (looked .outside .ensures) ∙ passed .if2 .left in
+    let start = found .start-in in
+    let short = sym (ap (λ (r : FromBuf). decodeAnswer r) (c .before .before .enum-told .given .1)) ∙ read .from-buf .ensures ∙ to-the-end w (start .result) in
     c .lacking .ensures links fee-ids
-    ∙ stepped-lacking (args .set) p links fee-ids w (args .first .0) (args .last) six window (c .before .before .before .before .before .before .start-in .result) (c .before .before .before .before .before .before .start-in .ensures) 9 []
-    (sym (ap (λ (r : FromBuf). decodeAnswer r) (c .before .before .enum-told .given .1)) ∙ c .before .before .before .before .from-buf .ensures ∙ to-the-end w (c .before .before .before .before .before .before .start-in .result))
+    ∙ stepped-lacking (args .set) p links fee-ids w (args .first .0) (args .last) six window (start .result) (start .ensures) 9 [] short
 
 same-length : tie.Need-same-length
 same-length c = search needs
@@ -138,17 +151,22 @@ same-length-2 c = search needs
 
 returns-4 : tie.Need-returns-4
 returns-4 c =
-    let args = c .before .before .before .before .before .before .before .before .before .before .before .before .before .before .before .before .before .before .before .before .before .before .before .args in
-    let p = args .progress in
-    let links = args .links .now in
-    let fee-ids = args .fee-ids .now in
+    let stepped = c .before .before .before .before in
+    let read = stepped .before .before .before .before .before .before in
+    let found = read .before .before in
+    let passed = found .before .before .before in
+    let looked = passed .before in
+    let numbered = looked .before .before in
+    let args = numbered .before .before .before .before .before .args in
     let w = args .window .now in
-    let six = sym (c .before .before .before .before .before .before .before .before .before .before .before .before .before .before .before .before .before .before .numbers-unusable .ensures) ∙ c .before .before .before .before .before .before .before .before .before .before .before .before .before .before .before .before .before .if1 .left in
-    let start = c .before .before .before .before .before .before .before .before .before .before .before .before .start-in .result in
-    let header = sym (ap (λ (r : FromBuf). decodeAnswer r) (c .before .before .before .before .before .before .before .before .rdh .given .1)) ∙ c .before .before .before .before .before .before .before .before .before .before .from-buf .ensures ∙ to-the-end w start in
-    c .before .before .before .before .header-step .ensures
-    ∙ stepped-decoded (args .set) p links fee-ids w (args .first .0) (args .last) six (sym (c .before .before .before .before .before .before .before .before .before .before .before .before .before .before .before .before .outside .ensures) ∙ c .before .before .before .before .before .before .before .before .before .before .before .before .before .before .before .if2 .left)
-    start (c .before .before .before .before .before .before .before .before .before .before .before .before .start-in .ensures) _ header
+    let six = sym (numbered .numbers-unusable .ensures) ∙ looked .before .if1 .left in
+    let window = sym (looked .outside .ensures) ∙ passed .if2 .left in
+    let start = found .start-in in
+    let header =
+    sym (ap (λ (r : FromBuf). decodeAnswer r) (stepped .before .before .before .before .rdh .given .1)) ∙ read .from-buf .ensures
+    ∙ to-the-end w (start .result) in
+    stepped-decoded (args .set) (args .progress) (args .links .now) (args .fee-ids .now) w (args .first .0) (args .last) six window
+    (start .result) (start .ensures) _ header (stepped .header-step .ensures)
 
 pub take-step-spec : {M : Type 1} → statement M
 take-step-spec =

@@ -1,11 +1,10 @@
 -- The tests in a row are those of the definition.
 use mathlib.Core.Path.{refl}
-use Rattle.scan_window.specs.Stepping.{numbersUnusable}
+use Rattle.scan_cdp.specs.Steps.{numbersUnusable}
 use Rattle.scan_window.proofs.numbers_unusable.Statement.{statement}
 use Rattle.scan_window.proofs.numbers_unusable.Tie as tie
 
 returns : tie.Need-returns
-unfolding numbersUnusable
 returns c = refl
 
 pub numbers-unusable-spec : {M : Type 1} → statement M

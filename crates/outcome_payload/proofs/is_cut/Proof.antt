@@ -5,8 +5,8 @@ use Prim.Native.Nat.{ℕ, _+_}
 use lib.Dec.{ltb}
 use Rattle.scan_cdp.specs.Steps.{cut}
 use borrow.Author.Needs.{needs}
-use Rattle.outcome_counts.proofs.is_cut.Statement.{statement}
-use Rattle.outcome_counts.proofs.is_cut.Tie as tie
+use Rattle.outcome_payload.proofs.is_cut.Statement.{statement}
+use Rattle.outcome_payload.proofs.is_cut.Tie as tie
 
 payload-size-requires : tie.Need-payload-size-requires
 payload-size-requires c κs = search needs

@@ -3,8 +3,8 @@ use mathlib.Core.Path.{sym}
 use Rattle.basis.specs.Pick.{on, off}
 use borrow.Author.Tests.{eq-eqb, ne-eqb}
 use Rattle.scan_cdp.specs.Windows.{partAt}
-use Rattle.outcome_counts.proofs.part.Statement.{statement}
-use Rattle.outcome_counts.proofs.part.Tie as tie
+use Rattle.outcome_payload.proofs.part.Statement.{statement}
+use Rattle.outcome_payload.proofs.part.Tie as tie
 
 returns : tie.Need-returns
 unfolding partAt

@@ -4,24 +4,24 @@ use mathlib.Core.Bool.{Bool, true, false, _||_, or-false, or-true}
 use mathlib.Core.Path.{_≡_, ap, sym, _∙_}
 use mathlib.Core.List.{List}
 use borrow.Author.Tests.{ltb-false}
-use lib.Dec.{eqb, ltb}
+use lib.Dec.{ltb}
 use lib.ListN.{length, take}
 use Rattle.basis.specs.Pick.{neither, off, on}
 use Rattle.basis.specs.Refusals.{Answer}
-use Rattle.stats.specs.Counts.{fullCount}
 use Rattle.stats.specs.Lists.{placesAfter, twice, usedAfter}
 use Rattle.scan_cdp.specs.Answers.{Found}
-use Rattle.scan_cdp.specs.Steps.{limit, placesListed, unchanged, unusable, usedListed}
-use Rattle.scan_cdp.specs.Windows.{outside}
+use Rattle.scan_cdp.specs.Steps.{limit, numbersUnusable, placesListed, unchanged, unusable, usedListed, withLinks}
+use Rattle.scan_cdp.specs.Windows.{examined, examinedUnless, outside}
 use Rattle.scan_cdp.specs.declared.Part.{Part}
 use Rattle.scan_cdp.specs.declared.Progress.{Progress}
+use Rattle.scan_cdp.specs.declared.Settings.{Settings}
 use Rattle.scan_cdp.specs.declared.State.{State}
-use Rattle.scan_window.specs.Stepping.{Unchanged, numbersUnusable, stepOf, withLinks}
-use Rattle.scan_window.specs.declared.Step.{Step}
+use Rattle.scan_window.specs.Examinations.{Unchanged, examinationOf}
+use Rattle.scan_window.specs.declared.Examination.{Examination}
 
 -- A reply that changes nothing, with the links and FEE ids as they were.
-pub nothing-changed : {p : Progress} {a : Answer (Found Part)} {r : Step} → Unchanged p a r → (links feeIds : List ℕ)
-    → stepOf r links feeIds ≡ unchanged (withLinks p links) feeIds a
+pub nothing-changed : {p : Progress} {a : Answer (Found Part)} {r : Examination} → Unchanged p a r → (links feeIds : List ℕ)
+    → examinationOf r links feeIds ≡ unchanged (withLinks p links) feeIds a
 nothing-changed u links feeIds =
     λ i. record { answer = u .answer i; marks = u .marks i; state = withLinks (u .progress i) links; feeIds = feeIds }
 
@@ -38,25 +38,26 @@ listed due x used l e = (sym (on _ _ e), sym (on _ _ e))
 -- That no link is listed twice leaves the numbers of refusal 6.
 pub numbers-alone : (p : Progress) (links feeIds : List ℕ) → twice (take (p .«links_used») links) ≡ false
     → unusable (withLinks p links) feeIds ≡ numbersUnusable p (length links) (length feeIds)
-unfolding unusable numbersUnusable
+unfolding unusable
 numbers-alone p links feeIds once =
-    let counts : Bool → Bool =
-    λ b. b || eqb (p .counts .seen) fullCount || eqb (p .counts .filtered) fullCount || eqb (p .counts .payload) fullCount in
-    let others =
-    ltb limit (p .place .0) || ltb limit (p .position .0) || ltb (length links) (p .«links_used») || ltb (length feeIds) (p .«fee_ids_used») in
-    ap (λ (b : Bool). counts (others || b)) once ∙ ap counts (or-false others)
+    let numbers = numbersUnusable p (length links) (length feeIds) in
+    ap (λ (b : Bool). numbers || b) once ∙ or-false numbers
+
+-- Where no link is listed twice, an examination is one with refusal 6 by the numbers.
+pub once-examined : (set : Settings) (p : Progress) (links feeIds w : List ℕ) (first : ℕ) (last : Bool)
+    → twice (take (p .«links_used») links) ≡ false
+    → examinedUnless (numbersUnusable p (length links) (length feeIds)) set (withLinks p links) feeIds w first last
+    ≡ examined set (withLinks p links) feeIds w first last
+unfolding examined
+once-examined set p links feeIds w first last once =
+    ap (λ (b : Bool). examinedUnless b set (withLinks p links) feeIds w first last) (sym (numbers-alone p links feeIds once))
 
 -- A link that is listed twice is refusal 6.
 pub twice-unusable : (s : State) (feeIds : List ℕ) → twice (take (s .progress .«links_used») (s .links)) ≡ true → unusable s feeIds ≡ true
 unfolding unusable
 twice-unusable s feeIds e =
-    let p = s .progress in
-    let counts : Bool → Bool =
-    λ b. b || eqb (p .counts .seen) fullCount || eqb (p .counts .filtered) fullCount || eqb (p .counts .payload) fullCount in
-    let others =
-    ltb limit (p .place .0) || ltb limit (p .position .0)
-    || ltb (length (s .links)) (p .«links_used») || ltb (length feeIds) (p .«fee_ids_used») in
-    ap (λ (b : Bool). counts (others || b)) e ∙ ap counts (or-true others)
+    let numbers = numbersUnusable (s .progress) (length (s .links)) (length feeIds) in
+    ap (λ (b : Bool). numbers || b) e ∙ or-true numbers
 
 -- A window that is not refused starts at or before the byte place, and ends within the limit.
 pub record Inside (place first size : ℕ) : Type 0 where
