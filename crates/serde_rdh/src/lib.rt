@@ -5,17 +5,17 @@ ghost use Rattle.basis.specs.Bytes.{bytesOf};
 ghost use Rattle.serde_rdh.specs.Layout.{decode, encode, encodedInto, Equal};
 ghost use Rattle.serde_rdh.specs.Refusals.{decodeAnswer, encodeAnswer};
 ghost use Rattle.serde_rdh.specs.Words.{Words};
-use crate::little_endian::join_u8;
-use crate::little_endian::join_u16;
-use crate::little_endian::join_u32;
 use crate::little_endian::read_u16;
 use crate::little_endian::read_u64;
-use crate::little_endian::same_words;
-use crate::little_endian::write_words;
 use rdh::rdh_cru::CruidDw;
 use rdh::rdh_cru::DataformatReserved;
 pub use rdh::rdh_cru::RDH_CRU_SIZE_BYTES;
 use rdh::rdh_cru::RdhCru;
+use serde_rdh_numbers::join_u8;
+use serde_rdh_numbers::join_u16;
+use serde_rdh_numbers::join_u32;
+use serde_rdh_words::same_words;
+use serde_rdh_words::write_words;
 
 mod little_endian;
 mod rdh0;
@@ -63,11 +63,10 @@ pub fn to_byte_slice(rdh: RdhCru, out: &mut [u8]) -> ToByteSlice
     ensures answer { λ r. ⌜ encodeAnswer r ≡ encode (now (out .entry)) ⌝ }
     ensures left { λ _. ⌜ now (out .exit) ≡ encodedInto rdh (now (out .entry)) ⌝ }
 {
-    if out.len() < RDH_CRU_SIZE_BYTES {
-        return ToByteSlice::TooShort;
+    if write_words(out, words(rdh)) {
+        return ToByteSlice::Written;
     }
-    write_words(out, words(rdh));
-    ToByteSlice::Written
+    ToByteSlice::TooShort
 }
 
 // Equality by bytes, eight at a time.

@@ -5,10 +5,10 @@ ghost use Prim.Native.Nat.{_≤_};
 ghost use lib.ListN.{length};
 ghost use Rattle.basis.specs.Bytes.{bytesOf};
 ghost use Rattle.serde_rdh.specs.Layout.{decoded};
-use crate::little_endian::join_u32;
 use crate::little_endian::read_u32;
 use rdh::rdh1::BcReserved;
 use rdh::rdh1::Rdh1;
+use serde_rdh_numbers::join_u32;
 
 // The third word of the header that starts where `buf` does.
 pub(crate) fn from_buf(buf: &[u8]) -> Rdh1

@@ -56,17 +56,19 @@ read-u64-requires-3 c κs = search needs
 returns-2 : tie.Need-returns-2
 unfolding decode decoded header span
 returns-2 c =
-    let s = c .before .before .before .before .before .before .before .before .before .before .before .before .before .before .args .buf .now in
-    let long : 64 ≤ length s = omega (arith, c .before .before .before .before .before .before .before .before .before .before .before .before .if1 .left) in
+    let packet = c .before .before .before .before .before .before in
+    let first = packet .before .before .before .before .before in
+    let s = first .before .before .before .args .buf .now in
+    let long : 64 ≤ length s = omega (arith, first .before .if1 .left) in
     rw (le-ltb (length s) 64 long)
     (λ i.
     gives record {
-      rdh0 = c .before .before .before .before .before .before .before .before .before .before .before .from-buf .ensures i;
-      «offset_new_packet» = c .before .before .before .before .before .before .before .before .before .before .read-u16 .ensures i;
-      «memory_size» = c .before .before .before .before .before .before .before .before .before .read-u162 .ensures i;
+      rdh0 = first .from-buf .ensures i;
+      «offset_new_packet» = packet .before .before .before .before .read-u16 .ensures i;
+      «memory_size» = packet .before .before .before .read-u162 .ensures i;
       «link_id» = sym (numberAt-byte s 12 (omega arith)) i;
       «packet_counter» = sym (numberAt-byte s 13 (omega arith)) i;
-      «cruid_dw» = record { 0 = c .before .before .before .before .before .before .read-u163 .ensures i };
+      «cruid_dw» = record { 0 = packet .read-u163 .ensures i };
       rdh1 = c .before .before .before .before .before .from-buf2 .ensures i;
       «dataformat_reserved0» = record { 0 = c .before .before .before .before .read-u64 .ensures i };
       rdh2 = c .before .before .before .from-buf3 .ensures i;

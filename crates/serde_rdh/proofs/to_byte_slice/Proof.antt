@@ -1,22 +1,23 @@
--- Below 64 bytes the test refuses before anything is written; from there on the words are the header in front of the old bytes.
-use mathlib.Core.Path.{ap, _∙_}
-use Prim.Native.Nat.{_≤_}
-use native.Mathlib.Omega.{arith}
+-- The words are written exactly where 64 bytes are lent, and their bytes are the header's.
+use mathlib.Core.Path.{_≡_, sym, ap, _∙_}
+use mathlib.Core.List.{List, _++_}
+use Prim.Native.Nat.{ℕ}
 use borrow.Author.Needs.{needs}
-use borrow.Author.Tests.{lt-ltb, le-ltb}
-use lib.ListN.{length}
-use lib.Seq.{sets}
-use Rattle.serde_rdh.specs.Layout.{encode, encoded, encodedInto}
-use Rattle.serde_rdh.specs.LayoutLaws.{length-encoded}
-use Rattle.serde_rdh.proofs.Stores.{sets-front}
+use borrow.Author.Tests.{not-true, not-false}
+use lib.Dec.{ltb}
+use lib.ListN.{length, drop}
+use Rattle.basis.specs.Pick.{pick}
+use Rattle.rdh.specs.declared.rdh_cru.RdhCru.{RdhCru}
+use Rattle.serde_rdh_words.specs.WordBytes.{wordsInto}
+use Rattle.serde_rdh.specs.Layout.{encode, encodedInto}
+use Rattle.serde_rdh.specs.Words.{Words}
 use Rattle.serde_rdh.proofs.to_byte_slice.Statement.{statement}
 use Rattle.serde_rdh.proofs.to_byte_slice.Tie as tie
 
-returns : tie.Need-returns
-unfolding encode encodedInto
-returns c =
-    let short = lt-ltb (length (c .before .before .args .out .now)) 64 (omega arith) in
-    (rw short, rw short)
+-- what the words leave in a buffer, the header leaves
+left-there : (h : RdhCru) (ws l : List ℕ) → Words h ws → wordsInto ws l ≡ encodedInto h l
+unfolding encodedInto wordsInto
+left-there h ws l same = ap (λ (s : List ℕ). pick (ltb (length l) 64) l (s ++ drop 64 l)) (same .bytes)
 
 words-requires : tie.Need-words-requires
 words-requires c κs = search needs
@@ -27,20 +28,26 @@ write-words-requires c κs = search needs
 same-length : tie.Need-same-length
 same-length c = search needs
 
+returns : tie.Need-returns
+unfolding encode
+returns c =
+    let written = c .before .before .before in
+    let l = written .before .before .before .before .args .out .now in
+    let long = not-true (ltb (length l) 64) (sym (written .write-words .ensures .0) ∙ c .if1 .taken) in
+    (rw long, written .write-words .ensures .1 ∙ left-there _ _ l (written .before .words .ensures))
+
+same-length-2 : tie.Need-same-length-2
+same-length-2 c = search needs
+
 returns-2 : tie.Need-returns-2
-unfolding encode encodedInto
+unfolding encode
 returns-2 c =
-    let start = c .before .before .before .before .before .before .before .args in
-    let l = start .out .now in
-    let long : 64 ≤ length l = omega (arith, c .before .before .before .before .before .if1 .left) in
-    let test = le-ltb (length l) 64 long in (
-      rw test,
-      rw test
-          (c .before .before .write-words .ensures
-          ∙ ap (sets l 0) (c .before .before .before .words .ensures .bytes)
-          ∙ sets-front l (encoded (start .rdh)) 64 (length-encoded (start .rdh)) long),
-    )
+    let written = c .before .before .before in
+    let l = written .before .before .before .before .args .out .now in
+    let short = not-false (ltb (length l) 64) (sym (written .write-words .ensures .0) ∙ c .if1 .left) in
+    (rw short, written .write-words .ensures .1 ∙ left-there _ _ l (written .before .words .ensures))
 
 pub to-byte-slice-spec : {M : Type 1} → statement M
 to-byte-slice-spec =
-    tie.close (tie.spec returns words-requires write-words-requires same-length returns-2)
+    tie.close
+    (tie.spec words-requires write-words-requires same-length returns same-length-2 returns-2)

@@ -3,7 +3,7 @@ use mathlib.Core.List.{[], _++_}
 use borrow.Author.Needs.{needs}
 use Rattle.basis.specs.Bytes.{bytesOf}
 use Rattle.serde_rdh.specs.Layout.{bytesIn, span, value}
-use Rattle.serde_rdh.specs.Words.{wordBytes}
+use Rattle.serde_rdh_words.specs.WordBytes.{wordBytes}
 use Rattle.serde_rdh.proofs.Ranges.{in-range}
 use Rattle.serde_rdh.proofs.words.Statement.{statement}
 use Rattle.serde_rdh.proofs.words.Tie as tie

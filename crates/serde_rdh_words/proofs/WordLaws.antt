@@ -1,19 +1,14 @@
--- Laws of words: a number joined from two parts, and words that come back from their bytes.
+-- Laws of words: they come back from their bytes.
 use mathlib.Core.Path.{_≡_, refl, sym, ap, ap₂, _∙_}
 use mathlib.Core.List.{List, [], _∷_, _++_}
 use Prim.Native.Nat.{ℕ, suc, _+_, _*_, _<_, _^_}
 use native.Mathlib.Numerals.{add-one}
 use native.Mathlib.Omega.{arith}
-use lib.ListN.{length, take, drop, getD}
+use lib.ListN.{length, take, drop, getD, length-append}
 use lib.Seq.{take-at, drop-at, take-suc}
 use Rattle.basis.specs.Bytes.{bytesOf, little}
 use Rattle.basis.specs.BytesLaws.{length-bytesOf, little-bytesOf, bytesOf-join}
-use Rattle.serde_rdh.specs.Words.{Joined, wordBytes}
-
--- a number joined from two parts
-pub joined : (width low high r : ℕ) → low < 256 ^ width → r ≡ low + 256 ^ width * high → Joined width low high r
-joined width low high r fits e =
-    record { number = e; bytes = ap (bytesOf (width + width)) e ∙ bytesOf-join width width low high fits }
+use Rattle.serde_rdh_words.specs.WordBytes.{wordBytes}
 
 abbrev pub Fit : List ℕ → Type 0
 Fit ws = (k : ℕ) → k < length ws → getD ws k 0 < 256 ^ 8
@@ -40,3 +35,9 @@ pub take-more : (v w : List ℕ) (k : ℕ) → k < length v → k < length w →
     → take (k + 1) v ≡ take (k + 1) w
 take-more v w k p q before here =
     rw (add-one, take-suc v k 0 p, take-suc w k 0 q) (ap₂ (λ (l : List ℕ) (n : ℕ). l ++ (n ∷ [])) before here)
+
+-- each word has eight bytes
+pub length-wordBytes : (ws : List ℕ) → length (wordBytes ws) ≡ 8 * length ws
+unfolding wordBytes
+length-wordBytes [] = refl
+length-wordBytes (w ∷ ws) = omega (arith, length-append (bytesOf 8 w) (wordBytes ws), length-bytesOf 8 w, length-wordBytes ws)

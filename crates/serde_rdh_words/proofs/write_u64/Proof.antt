@@ -7,9 +7,9 @@ use borrow.Author.Needs.{needs}
 use lib.ListN.{length, length-set}
 use lib.Seq.{sets}
 use Rattle.basis.specs.Bytes.{bytesOf}
-use Rattle.serde_rdh.proofs.Stores.{sets-next}
-use Rattle.serde_rdh.proofs.little_endian.write_u64.Statement.{statement}
-use Rattle.serde_rdh.proofs.little_endian.write_u64.Tie as tie
+use Rattle.serde_rdh_words.proofs.Stores.{sets-next}
+use Rattle.serde_rdh_words.proofs.write_u64.Statement.{statement}
+use Rattle.serde_rdh_words.proofs.write_u64.Tie as tie
 
 abbrev Inv-loop : tie.InvT-loop
 Inv-loop out₀ i n rest₀ b₀ out rest b =

@@ -8,7 +8,7 @@ use lib.ListN.{length, drop, getD, set}
 use lib.Seq.{drop-cons, sets, sets-eq}
 use Rattle.basis.specs.Bytes.{bytesOf}
 use Rattle.basis.specs.BytesLaws.{length-bytesOf}
-use Rattle.serde_rdh.specs.Words.{wordBytes}
+use Rattle.serde_rdh_words.specs.WordBytes.{wordBytes}
 
 pub sets-append : (l : List ℕ) (i : ℕ) (a b : List ℕ) → sets (sets l i a) (i + length a) b ≡ sets l i (a ++ b)
 sets-append l i [] b = ap (λ (k : ℕ). sets l k b) (omega arith)

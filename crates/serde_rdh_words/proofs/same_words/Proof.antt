@@ -9,10 +9,10 @@ use lib.ListN.{length, take, getD}
 use lib.Seq.{take-all}
 use mir.Syntax.{w64}
 use mir.Val.{Fits}
-use Rattle.serde_rdh.specs.Words.{wordBytes}
-use Rattle.serde_rdh.proofs.WordLaws.{same-words, take-more}
-use Rattle.serde_rdh.proofs.little_endian.same_words.Statement.{statement}
-use Rattle.serde_rdh.proofs.little_endian.same_words.Tie as tie
+use Rattle.serde_rdh_words.specs.WordBytes.{wordBytes}
+use Rattle.serde_rdh_words.proofs.WordLaws.{same-words, take-more}
+use Rattle.serde_rdh_words.proofs.same_words.Statement.{statement}
+use Rattle.serde_rdh_words.proofs.same_words.Tie as tie
 
 abbrev Inv-loop : tie.InvT-loop
 Inv-loop a b k₀ k = (k ≤ 8) × (take k a ≡ take k b)
