@@ -1,21 +1,12 @@
 -- The lists of a scan: links and FEE ids, each listed when it is first met (K3), and what refusals 4 and 6 ask of a list. Only the used
 -- part of a list counts.
 use Prim.Native.Nat.{ℕ, _+_}
-use mathlib.Core.Bool.{Bool, false, not, _||_, _&&_}
-use mathlib.Core.List.{List, [], _∷_}
-use lib.Dec.{eqb, leb, ltb}
+use mathlib.Core.Bool.{Bool, not, _&&_}
+use mathlib.Core.List.{List}
+use lib.Dec.{leb, ltb}
 use lib.ListN.{length, set, take}
 use Rattle.basis.specs.Pick.{pick}
-
--- Whether a number is listed.
-unfoldable pub member : ℕ → List ℕ → Bool
-member x [] = false
-member x (y ∷ ys) = eqb x y || member x ys
-
--- Whether any number is listed twice.
-unfoldable pub twice : List ℕ → Bool
-twice [] = false
-twice (y ∷ ys) = member y ys || twice ys
+unfoldable pub use Rattle.stats_search.specs.Search.{member, twice}
 
 -- Whether a number that is met is listed: it is new, and the list has a place for it.
 abbrev pub goesIn : ℕ → ℕ → List ℕ → Bool

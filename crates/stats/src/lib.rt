@@ -1,8 +1,10 @@
 // The counts and lists of a scan, as the Rust's `Stats` keeps them.
 ghost use mathlib.Core.Path.{_≡_};
-ghost use lib.ListN.{take};
 ghost use Rattle.stats.specs.Counts.{added};
-ghost use Rattle.stats.specs.Lists.{full, member, placesAfter, twice, usedAfter};
+ghost use Rattle.stats.specs.Lists.{full, placesAfter, usedAfter};
+use stats_search::has_fee_id;
+use stats_search::has_link;
+pub use stats_search::has_link_twice;
 
 // A count, and whether it was full and started again at 0.
 pub struct Count {
@@ -25,36 +27,6 @@ pub fn add(count: u32, n: u32) -> Count
         value: sum,
         carry: false,
     }
-}
-
-// Whether a FEE id is in the used part of the list.
-pub fn has_fee_id(fee_ids: &[u16], used: usize, fee_id: u16) -> bool
-    ensures { λ r. ⌜ r ≡ member «fee_id» (take used (now («fee_ids» .entry))) ⌝ }
-{
-    let end = numbers::least(used, fee_ids.len());
-    let mut i = 0;
-    while i < end {
-        if fee_ids[i] == fee_id {
-            return true;
-        }
-        i += 1;
-    }
-    false
-}
-
-// Whether a link is in the used part of the list.
-pub fn has_link(links: &[u8], used: usize, link: u8) -> bool
-    ensures { λ r. ⌜ r ≡ member link (take used (now (links .entry))) ⌝ }
-{
-    let end = numbers::least(used, links.len());
-    let mut i = 0;
-    while i < end {
-        if links[i] == link {
-            return true;
-        }
-        i += 1;
-    }
-    false
 }
 
 // Whether a FEE id is new and has no place left in the list. Only a list without a free place is searched.
@@ -95,27 +67,4 @@ pub fn try_add_link(links: &mut [u8], used: usize, link: u8) -> usize
     }
     links[used] = link;
     used + 1
-}
-
-// Whether a link is in the used part of the list twice, found in one walk from its end.
-pub fn has_link_twice(links: &[u8], used: usize) -> bool
-    ensures { λ r. ⌜ r ≡ twice (take used (now (links .entry))) ⌝ }
-{
-    let mut later = [false; 256];
-    let mut i = numbers::least(used, links.len());
-    while 0 < i {
-        i -= 1;
-        let link = wide(links[i]);
-        if later[link] {
-            return true;
-        }
-        later[link] = true;
-    }
-    false
-}
-
-fn wide(x: u8) -> usize
-    ensures { λ r. ⌜ r ≡ x ⌝ }
-{
-    x as usize
 }

@@ -1,4 +1,4 @@
-// Shows how the crate `stats` is used from Rattle: counts at their edges, and searches through lists whose used part is empty, a part, all,
+// Shows how the crates `stats` and `stats_search` are used from Rattle: counts at their edges, and searches through lists whose used part is empty, a part, all,
 // or said to be more than there is.
 fn answer(b: bool) {
     if b {
@@ -27,13 +27,13 @@ fn links(list: &[u8], used: usize) {
     cases_show::text(b" used");
     cases_show::number(used as u64);
     cases_show::text(b": 0");
-    answer(stats::has_link(list, used, 0));
+    answer(stats_search::has_link(list, used, 0));
     cases_show::text(b", 7");
-    answer(stats::has_link(list, used, 7));
+    answer(stats_search::has_link(list, used, 7));
     cases_show::text(b", 255");
-    answer(stats::has_link(list, used, 255));
+    answer(stats_search::has_link(list, used, 255));
     cases_show::text(b", twice");
-    answer(stats::has_link_twice(list, used));
+    answer(stats_search::has_link_twice(list, used));
     cases_show::end();
 }
 
@@ -41,11 +41,11 @@ fn fee_ids(list: &[u16], used: usize) {
     cases_show::text(b"FEE ids, used");
     cases_show::number(used as u64);
     cases_show::text(b": 0x502a");
-    answer(stats::has_fee_id(list, used, 0x502A));
+    answer(stats_search::has_fee_id(list, used, 0x502A));
     cases_show::text(b", 42");
-    answer(stats::has_fee_id(list, used, 42));
+    answer(stats_search::has_fee_id(list, used, 42));
     cases_show::text(b", 65535");
-    answer(stats::has_fee_id(list, used, 65535));
+    answer(stats_search::has_fee_id(list, used, 65535));
     cases_show::end();
 }
 

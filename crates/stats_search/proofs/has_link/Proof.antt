@@ -4,10 +4,10 @@ use mathlib.Core.Path.{_≡_, refl}
 use Prim.Native.Nat.{_-_, _≤_, min}
 use native.Mathlib.Omega.{arith}
 use lib.ListN.{length, take, drop}
-use Rattle.stats.specs.Lists.{member}
-use Rattle.stats.specs.ListsLaws.{found, not-here, not-found}
-use Rattle.stats.proofs.has_link.Statement.{statement}
-use Rattle.stats.proofs.has_link.Tie as tie
+use Rattle.stats_search.specs.Search.{member}
+use Rattle.stats_search.specs.SearchLaws.{found, not-here, not-found}
+use Rattle.stats_search.proofs.has_link.Statement.{statement}
+use Rattle.stats_search.proofs.has_link.Tie as tie
 
 abbrev Inv-loop : tie.InvT-loop
 Inv-loop links used link end i₀ i =

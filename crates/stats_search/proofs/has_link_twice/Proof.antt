@@ -5,9 +5,9 @@ use mathlib.Core.Bool.{true, false}
 use mathlib.Core.Path.{_≡_, ap, sym, subst, _∙_}
 use native.Mathlib.Omega.{arith}
 use lib.ListN.{getD, replicate, set}
-use Rattle.stats.specs.ListsLaws.{Walked, walk-begins, walk-ends, walk-finds, walk-goes-on}
-use Rattle.stats.proofs.has_link_twice.Statement.{statement}
-use Rattle.stats.proofs.has_link_twice.Tie as tie
+use Rattle.stats_search.specs.SearchLaws.{Walked, walk-begins, walk-ends, walk-finds, walk-goes-on}
+use Rattle.stats_search.proofs.has_link_twice.Statement.{statement}
+use Rattle.stats_search.proofs.has_link_twice.Tie as tie
 
 abbrev Inv-loop : tie.InvT-loop
 Inv-loop links used later₀ i₀ later i = Walked links used i later
