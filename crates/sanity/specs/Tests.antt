@@ -45,55 +45,91 @@ pieces (t ∷ ts) = pick (t .fails) (t .piece) [] ++ pieces ts
 abbrev pub section : String → List Test → List ℕ
 section heading ts = pick (anyFails ts) (ascii heading ++ pieces ts) []
 
--- The FEE id: reserved bits, stave, layer (V4).
+-- The tests of a FEE id: no bit of 0x8CC0; stave 0 to 47; layer 0 to 6 (V4).
+abbrev pub feeIdReservedTest : ℕ → Test
+feeIdReservedTest fee = test (not (eqb (bitAnd fee 0x8CC0) 0)) (hexPiece "reserved bits = " (bitAnd fee 0x8CC0))
+
+abbrev pub staveTest : ℕ → Test
+staveTest fee = test (ltb 47 (staveOf fee)) (decimalPiece "stave number = " (staveOf fee))
+
+abbrev pub layerTest : ℕ → Test
+layerTest fee = test (ltb 6 (layerOf fee)) (decimalPiece "layer = " (layerOf fee))
+
 unfoldable pub feeIdTests : ℕ → List Test
-feeIdTests fee =
-    test (not (eqb (bitAnd fee 0x8CC0) 0)) (hexPiece "reserved bits = " (bitAnd fee 0x8CC0))
-    ∷ test (ltb 47 (staveOf fee)) (decimalPiece "stave number = " (staveOf fee))
-    ∷ test (ltb 6 (layerOf fee)) (decimalPiece "layer = " (layerOf fee))
-    ∷ []
+feeIdTests fee = feeIdReservedTest fee ∷ staveTest fee ∷ layerTest fee ∷ []
 
 -- The tests of RDH0 (V4). The expected header ID is the validator's; the system id is tested with ITS alone.
-unfoldable pub rdh0Tests : ℕ → Bool → Rdh0 → List Test
-rdh0Tests expected its w =
+abbrev pub headerIdTest : ℕ → Rdh0 → Test
+headerIdTest expected w =
     test (not (eqb (w .«header_id») expected))
     (ascii "Header ID = " ++ decimal (w .«header_id») ++ ascii " (expected " ++ decimal expected ++ ascii ")")
-    ∷ test (not (eqb (w .«header_size») 64)) (hexPiece "Header size = " (w .«header_size»))
-    ∷ test (anyFails (feeIdTests (w .«fee_id» .0))) (ascii "FEE ID = [" ++ pieces (feeIdTests (w .«fee_id» .0)) ++ ascii "] ")
-    ∷ test (not (eqb (w .«priority_bit») 0)) (hexPiece "Priority bit = " (w .«priority_bit»))
-    ∷ test (its && not (eqb (w .«system_id») 32)) (hexPiece "system_id = " (w .«system_id»))
-    ∷ test (not (eqb (w .reserved0) 0)) (hexPiece "reserved0 = " (w .reserved0))
-    ∷ []
 
--- The tests of RDH1 (V4).
-unfoldable pub rdh1Tests : Rdh1 → List Test
-rdh1Tests w =
+abbrev pub headerSizeTest : Rdh0 → Test
+headerSizeTest w = test (not (eqb (w .«header_size») 64)) (hexPiece "Header size = " (w .«header_size»))
+
+abbrev pub feeIdTest : Rdh0 → Test
+feeIdTest w =
+    test (anyFails (feeIdTests (w .«fee_id» .0))) (ascii "FEE ID = [" ++ pieces (feeIdTests (w .«fee_id» .0)) ++ ascii "] ")
+
+abbrev pub priorityBitTest : Rdh0 → Test
+priorityBitTest w = test (not (eqb (w .«priority_bit») 0)) (hexPiece "Priority bit = " (w .«priority_bit»))
+
+abbrev pub systemIdTest : Bool → Rdh0 → Test
+systemIdTest its w = test (its && not (eqb (w .«system_id») 32)) (hexPiece "system_id = " (w .«system_id»))
+
+abbrev pub rdh0ReservedTest : Rdh0 → Test
+rdh0ReservedTest w = test (not (eqb (w .reserved0) 0)) (hexPiece "reserved0 = " (w .reserved0))
+
+unfoldable pub rdh0Tests : ℕ → Bool → Rdh0 → List Test
+rdh0Tests expected its w =
+    headerIdTest expected w ∷ headerSizeTest w ∷ feeIdTest w ∷ priorityBitTest w ∷ systemIdTest its w ∷ rdh0ReservedTest w ∷ []
+
+-- The tests of RDH1: the reserved part of BC is 0; BC is at most 0xdeb (V4).
+abbrev pub rdh1ReservedTest : Rdh1 → Test
+rdh1ReservedTest w =
     test (not (eqb (bcReservedOf (w .«bc_reserved0» .0)) 0)) (hexPiece "reserved0 = " (bcReservedOf (w .«bc_reserved0» .0)))
-    ∷ test (ltb 0xdeb (bcOf (w .«bc_reserved0» .0))) (hexPiece "BC = " (bcOf (w .«bc_reserved0» .0)))
-    ∷ []
 
--- The tests of RDH2 (V4).
-unfoldable pub rdh2Tests : Rdh2 → List Test
-rdh2Tests w =
-    test (not (eqb (w .reserved0) 0)) (hexPiece "reserved0 = " (w .reserved0))
-    ∷ test (ltb 1 (w .«stop_bit»)) (hexPiece "stop bit = " (w .«stop_bit»))
-    ∷ test (eqb (w .«trigger_type») 0 || not (eqb (bits 15 26 (w .«trigger_type»)) 0))
+abbrev pub bcTest : Rdh1 → Test
+bcTest w = test (ltb 0xdeb (bcOf (w .«bc_reserved0» .0))) (hexPiece "BC = " (bcOf (w .«bc_reserved0» .0)))
+
+unfoldable pub rdh1Tests : Rdh1 → List Test
+rdh1Tests w = rdh1ReservedTest w ∷ bcTest w ∷ []
+
+-- The tests of RDH2: byte 39 is 0; the stop bit is at most 1; the trigger type is not 0, and has no bit of 15 to 26 (V4).
+abbrev pub rdh2ReservedTest : Rdh2 → Test
+rdh2ReservedTest w = test (not (eqb (w .reserved0) 0)) (hexPiece "reserved0 = " (w .reserved0))
+
+abbrev pub stopBitTest : Rdh2 → Test
+stopBitTest w = test (ltb 1 (w .«stop_bit»)) (hexPiece "stop bit = " (w .«stop_bit»))
+
+abbrev pub triggerTypeTest : Rdh2 → Test
+triggerTypeTest w =
+    test (eqb (w .«trigger_type») 0 || not (eqb (bits 15 26 (w .«trigger_type»)) 0))
     (hexPiece "Spare bits set in trigger_type = " (w .«trigger_type»))
-    ∷ []
 
--- The tests of RDH3 (V4).
+unfoldable pub rdh2Tests : Rdh2 → List Test
+rdh2Tests w = rdh2ReservedTest w ∷ stopBitTest w ∷ triggerTypeTest w ∷ []
+
+-- The tests of RDH3: bytes 54 and 55 are 0; the detector field has no bit of 12 to 23 (V4).
+abbrev pub rdh3ReservedTest : Rdh3 → Test
+rdh3ReservedTest w = test (not (eqb (w .reserved0) 0)) (hexPiece "reserved0 = " (w .reserved0))
+
+abbrev pub detectorFieldTest : Rdh3 → Test
+detectorFieldTest w = test (not (eqb (bits 12 23 (w .«detector_field»)) 0)) (hexPiece "detector_field = " (w .«detector_field»))
+
 unfoldable pub rdh3Tests : Rdh3 → List Test
-rdh3Tests w =
-    test (not (eqb (w .reserved0) 0)) (hexPiece "reserved0 = " (w .reserved0))
-    ∷ test (not (eqb (bits 12 23 (w .«detector_field»)) 0)) (hexPiece "detector_field = " (w .«detector_field»))
-    ∷ []
+rdh3Tests w = rdh3ReservedTest w ∷ detectorFieldTest w ∷ []
 
--- The tests of dw and data format, which stand under no word (V4).
+-- The tests of dw, which is at most 1, and data format, at most 2; they stand under no word (V4).
+abbrev pub dwTest : RdhCru → Test
+dwTest h = test (ltb 1 (dwOf (h .«cruid_dw» .0))) (hexPiece "dw = " (dwOf (h .«cruid_dw» .0)))
+
+abbrev pub dataFormatTest : RdhCru → Test
+dataFormatTest h =
+    test (ltb 2 (dataFormatOf (h .«dataformat_reserved0» .0))) (hexPiece "data format = " (dataFormatOf (h .«dataformat_reserved0» .0)))
+
 unfoldable pub cruTests : RdhCru → List Test
-cruTests h =
-    test (ltb 1 (dwOf (h .«cruid_dw» .0))) (hexPiece "dw = " (dwOf (h .«cruid_dw» .0)))
-    ∷ test (ltb 2 (dataFormatOf (h .«dataformat_reserved0» .0))) (hexPiece "data format = " (dataFormatOf (h .«dataformat_reserved0» .0)))
-    ∷ []
+cruTests h = dwTest h ∷ dataFormatTest h ∷ []
 
 -- All tests there are (V3).
 unfoldable pub allTests : ℕ → Bool → RdhCru → List Test

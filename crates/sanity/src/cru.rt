@@ -1,16 +1,27 @@
 // The tests of what the header has beside its words: data wrapper and data format.
 ghost use mathlib.Core.Path.{_≡_};
-ghost use Rattle.sanity.specs.Tests.{anyFails, cruTests};
+ghost use Rattle.sanity.specs.Tests.{anyFails, cruTests, dataFormatTest, dwTest};
 use rdh::rdh_cru::RdhCru;
 
-pub const DW_MAX: u8 = 1;
+const DW_MAX: u8 = 1;
 
-pub const DATA_FORMAT_MAX: u8 = 2;
+const DATA_FORMAT_MAX: u8 = 2;
 
 pub fn fails(rdh: RdhCru) -> bool
     ensures { λ r. ⌜ r ≡ anyFails (cruTests rdh) ⌝ }
 {
-    let dw = rdh.dw();
-    let data_format = rdh.data_format();
-    (dw > DW_MAX) | (data_format > DATA_FORMAT_MAX)
+    let dw = dw_fails(rdh);
+    dw | data_format_fails(rdh)
+}
+
+pub fn dw_fails(rdh: RdhCru) -> bool
+    ensures { λ r. ⌜ r ≡ dwTest rdh .fails ⌝ }
+{
+    rdh.dw() > DW_MAX
+}
+
+pub fn data_format_fails(rdh: RdhCru) -> bool
+    ensures { λ r. ⌜ r ≡ dataFormatTest rdh .fails ⌝ }
+{
+    rdh.data_format() > DATA_FORMAT_MAX
 }

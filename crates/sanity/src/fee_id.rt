@@ -1,19 +1,43 @@
 // The tests of a FEE id: reserved bits, stave and layer.
 ghost use mathlib.Core.Path.{_≡_};
-ghost use Rattle.sanity.specs.Tests.{anyFails, feeIdTests};
+ghost use lib.Bits.{bitAnd};
+ghost use Rattle.sanity.specs.Tests.{anyFails, feeIdReservedTest, feeIdTests, layerTest, staveTest};
 use rdh::rdh0::FeeId;
 
-pub const RESERVED_BITS_MASK: u16 = 0b1000_1100_1100_0000;
+const RESERVED_BITS_MASK: u16 = 0b1000_1100_1100_0000;
 
-pub const STAVE_NUMBER_MAX: u8 = 47;
+const STAVE_NUMBER_MAX: u8 = 47;
 
-pub const LAYER_MAX: u8 = 6;
+const LAYER_MAX: u8 = 6;
 
 pub fn fails(fee_id: FeeId) -> bool
     ensures { λ r. ⌜ r ≡ anyFails (feeIdTests («fee_id» .0)) ⌝ }
 {
-    let reserved_bits = fee_id.0 & RESERVED_BITS_MASK;
-    let stave_number = fee_id.stave();
-    let layer = fee_id.layer();
-    (reserved_bits != 0) | (stave_number > STAVE_NUMBER_MAX) | (layer > LAYER_MAX)
+    let reserved_bits = reserved_bits_fail(fee_id);
+    let stave_number = stave_number_fails(fee_id);
+    reserved_bits | stave_number | layer_fails(fee_id)
+}
+
+pub fn reserved_bits_fail(fee_id: FeeId) -> bool
+    ensures { λ r. ⌜ r ≡ feeIdReservedTest («fee_id» .0) .fails ⌝ }
+{
+    reserved_bits(fee_id) != 0
+}
+
+pub fn reserved_bits(fee_id: FeeId) -> u16
+    ensures { λ r. ⌜ r ≡ bitAnd («fee_id» .0) 0x8CC0 ⌝ }
+{
+    fee_id.0 & RESERVED_BITS_MASK
+}
+
+pub fn stave_number_fails(fee_id: FeeId) -> bool
+    ensures { λ r. ⌜ r ≡ staveTest («fee_id» .0) .fails ⌝ }
+{
+    fee_id.stave() > STAVE_NUMBER_MAX
+}
+
+pub fn layer_fails(fee_id: FeeId) -> bool
+    ensures { λ r. ⌜ r ≡ layerTest («fee_id» .0) .fails ⌝ }
+{
+    fee_id.layer() > LAYER_MAX
 }

@@ -1,20 +1,33 @@
 // The tests of RDH2: reserved bits, stop bit and trigger type.
 ghost use mathlib.Core.Path.{_≡_};
-ghost use mathlib.Core.Bool.{not, _||_};
-ghost use lib.Dec.{eqb};
-ghost use Rattle.basis.specs.Bits.{bits};
-ghost use Rattle.sanity.specs.Tests.{anyFails, rdh2Tests};
+ghost use Rattle.sanity.specs.Tests.{anyFails, rdh2ReservedTest, rdh2Tests, stopBitTest, triggerTypeTest};
 use rdh::rdh2::Rdh2;
+
+const STOP_BIT_MAX: u8 = 1;
 
 pub fn fails(rdh2: Rdh2) -> bool
     ensures { λ r. ⌜ r ≡ anyFails (rdh2Tests rdh2) ⌝ }
 {
-    (rdh2.reserved0 != 0) | (rdh2.stop_bit > 1) | trigger_type_fails(rdh2.trigger_type)
+    let reserved0 = reserved0_fails(rdh2);
+    let stop_bit = stop_bit_fails(rdh2);
+    reserved0 | stop_bit | trigger_type_fails(rdh2)
+}
+
+pub fn reserved0_fails(rdh2: Rdh2) -> bool
+    ensures { λ r. ⌜ r ≡ rdh2ReservedTest rdh2 .fails ⌝ }
+{
+    rdh2.reserved0 != 0
+}
+
+pub fn stop_bit_fails(rdh2: Rdh2) -> bool
+    ensures { λ r. ⌜ r ≡ stopBitTest rdh2 .fails ⌝ }
+{
+    rdh2.stop_bit > STOP_BIT_MAX
 }
 
 // No trigger at all, or one of the spare bits 15 to 26.
-pub fn trigger_type_fails(trigger_type: u32) -> bool
-    ensures { λ r. ⌜ r ≡ (eqb «trigger_type» 0 || not (eqb (bits 15 26 «trigger_type») 0)) ⌝ }
+pub fn trigger_type_fails(rdh2: Rdh2) -> bool
+    ensures { λ r. ⌜ r ≡ triggerTypeTest rdh2 .fails ⌝ }
 {
-    (trigger_type == 0) | (trigger_type / 0x8000 % 0x1000 != 0)
+    (rdh2.trigger_type == 0) | (rdh2.trigger_type / 0x8000 % 0x1000 != 0)
 }

@@ -1,8 +1,8 @@
--- A piece that is put only where its test fails.
+-- The piece of a test, which is put only where the test fails. `b` is the test's condition, as the code has it.
 use Prim.Native.Nat.{ℕ, _<_, _^_}
 use mathlib.Core.Bool.{Bool, true, false, not}
 use Prim.Native.String.{String}
-use mathlib.Core.Path.{_≡_, ap, sym, _∙_}
+use mathlib.Core.Path.{_≡_, sym, _∙_}
 use mathlib.Core.List.{List, [], _++_}
 use borrow.Author.Tests.{not-true, not-false}
 use lib.ListN.{length}
@@ -10,25 +10,25 @@ use Rattle.basis.specs.Pick.{pick, on, off}
 use Rattle.text.specs.Ascii.{ascii}
 use Rattle.text.specs.Put.{Put}
 use Rattle.text.specs.PutLaws.{and-then, ended, put-nothing, respelled}
-use Rattle.sanity.specs.Tests.{Test, anyFails, pieces, section}
+use Rattle.sanity.specs.Tests.{Test, anyFails, pieces, test}
 
-pub passed : (fails : Bool) (t l : List ℕ) (i : ℕ) → not fails ≡ true → length l < 2 ^ 64 → i < 2 ^ 64
-    → Put l i (pick fails t []) l i
-passed fails t l i e room small = respelled (sym (off t [] (not-true fails e))) (put-nothing l i room small)
+pub passed : {b : Bool} (t : Test) (l : List ℕ) (i : ℕ) → b ≡ t .fails → not b ≡ true → length l < 2 ^ 64 → i < 2 ^ 64
+    → Put l i (pick (t .fails) (t .piece) []) l i
+passed {b} t l i is e room small = respelled (sym (off (t .piece) [] (sym is ∙ not-true b e))) (put-nothing l i room small)
 
-pub failed : {t l m : List ℕ} {i j : ℕ} (fails : Bool) → not fails ≡ false → Put l i t m j → Put l i (pick fails t []) m j
-failed {t} fails e p = respelled (sym (on t [] (not-false fails e))) p
+pub failed : {b : Bool} {l m : List ℕ} {i j : ℕ} (t : Test) → b ≡ t .fails → not b ≡ false → Put l i (t .piece) m j
+    → Put l i (pick (t .fails) (t .piece) []) m j
+failed {b} t is e p = respelled (sym (on (t .piece) [] (sym is ∙ not-false b e))) p
+
+-- either way: `u` is the piece as the code puts it together
+pub tested : {b : Bool} {l m u : List ℕ} {i j : ℕ} (t : Test) → b ≡ t .fails → u ≡ t .piece → Put l i (pick b u []) m j
+    → Put l i (pick (t .fails) (t .piece) []) m j
+tested t is same p = respelled (λ k. pick (is k) (same k) []) p
 
 -- the last piece of a list of tests
 pub last-piece : {t l m : List ℕ} {i j : ℕ} → Put l i t m j → Put l i (t ++ []) m j
 last-piece p = and-then p (ended p)
 
--- a word's heading and pieces, where `b`, whether any of its tests fails, is known
-pub no-section : {b : Bool} (heading : String) (ts : List Test) (l : List ℕ) (i : ℕ) → b ≡ anyFails ts → not b ≡ true → length l < 2 ^ 64
-    → i < 2 ^ 64 → Put l i (section heading ts) l i
-no-section heading ts l i is e room small =
-    passed (anyFails ts) (ascii heading ++ pieces ts) l i (ap not (sym is) ∙ e) room small
-
-pub a-section : {b : Bool} {l m n : List ℕ} {i j k : ℕ} (heading : String) (ts : List Test) → b ≡ anyFails ts → not b ≡ false
-    → Put l i (ascii heading) m j → Put m j (pieces ts) n k → Put l i (section heading ts) n k
-a-section heading ts is e p q = failed (anyFails ts) (ap not (sym is) ∙ e) (and-then p q)
+-- a word's heading and pieces, as one test
+abbrev pub headed : String → List Test → Test
+headed heading ts = test (anyFails ts) (ascii heading ++ pieces ts)

@@ -4,6 +4,8 @@ ghost use Rattle.text.specs.Put.{Put};
 use crate::piece;
 use rdh::rdh2::Rdh2;
 use sanity::rdh2::fails;
+use sanity::rdh2::reserved0_fails;
+use sanity::rdh2::stop_bit_fails;
 use sanity::rdh2::trigger_type_fails;
 
 pub(crate) fn put(out: &mut [u8], at: usize, rdh2: Rdh2) -> usize
@@ -16,22 +18,21 @@ pub(crate) fn put(out: &mut [u8], at: usize, rdh2: Rdh2) -> usize
     let at = piece::put_hex(
         out,
         at,
-        rdh2.reserved0 != 0,
+        reserved0_fails(rdh2),
         b"reserved0 = ",
         rdh2.reserved0 as u64,
     );
     let at = piece::put_hex(
         out,
         at,
-        rdh2.stop_bit > 1,
+        stop_bit_fails(rdh2),
         b"stop bit = ",
         rdh2.stop_bit as u64,
     );
-    let trigger_type = trigger_type_fails(rdh2.trigger_type);
     piece::put_hex(
         out,
         at,
-        trigger_type,
+        trigger_type_fails(rdh2),
         b"Spare bits set in trigger_type = ",
         rdh2.trigger_type as u64,
     )

@@ -3,8 +3,9 @@ ghost use Rattle.sanity.specs.Tests.{rdh3Tests, section};
 ghost use Rattle.text.specs.Put.{Put};
 use crate::piece;
 use rdh::rdh3::Rdh3;
+use sanity::rdh3::detector_field_fails;
 use sanity::rdh3::fails;
-use sanity::rdh3::reserved_bits_12_to_23;
+use sanity::rdh3::reserved0_fails;
 
 pub(crate) fn put(out: &mut [u8], at: usize, rdh3: Rdh3) -> usize
     ensures { λ r. ⌜ Put (now (out .entry)) at (section "RDH3: " (rdh3Tests rdh3)) (now (out .exit)) r ⌝ }
@@ -12,19 +13,18 @@ pub(crate) fn put(out: &mut [u8], at: usize, rdh3: Rdh3) -> usize
     if !fails(rdh3) {
         return at;
     }
-    let reserved_bits = reserved_bits_12_to_23(rdh3.detector_field);
     let at = text::put_bytes(out, at, b"RDH3: ");
     let at = piece::put_hex(
         out,
         at,
-        rdh3.reserved0 != 0,
+        reserved0_fails(rdh3),
         b"reserved0 = ",
         rdh3.reserved0 as u64,
     );
     piece::put_hex(
         out,
         at,
-        reserved_bits != 0,
+        detector_field_fails(rdh3),
         b"detector_field = ",
         rdh3.detector_field as u64,
     )

@@ -1,4 +1,4 @@
--- The two tests as the header gives their numbers.
+-- The two tests, one by one.
 use mathlib.Core.Path.{sym}
 use Rattle.sanity.specs.Tests.{cruTests}
 use Rattle.sanity.specs.TestsLaws.{any-of-2}
@@ -6,15 +6,15 @@ use borrow.Author.Needs.{needs}
 use Rattle.sanity.proofs.cru.fails.Statement.{statement}
 use Rattle.sanity.proofs.cru.fails.Tie as tie
 
-dw-requires : tie.Need-dw-requires
-dw-requires c κs = search needs
+dw-fails-requires : tie.Need-dw-fails-requires
+dw-fails-requires c κs = search needs
 
-data-format-requires : tie.Need-data-format-requires
-data-format-requires c κs = search needs
+data-format-fails-requires : tie.Need-data-format-fails-requires
+data-format-fails-requires c κs = search needs
 
 returns : tie.Need-returns
 unfolding cruTests
-returns c = rw (c .before .dw .ensures, c .data-format .ensures) (sym (any-of-2 _ _))
+returns c = rw (c .before .dw-fails .ensures, c .data-format-fails .ensures) (sym (any-of-2 _ _))
 
 pub fails-spec : {M : Type 1} → statement M
-fails-spec = tie.close (tie.spec dw-requires data-format-requires returns)
+fails-spec = tie.close (tie.spec dw-fails-requires data-format-fails-requires returns)

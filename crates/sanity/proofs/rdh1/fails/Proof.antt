@@ -1,4 +1,4 @@
--- The two tests as the header gives their numbers.
+-- The two tests, one by one.
 use mathlib.Core.Path.{sym}
 use Rattle.sanity.specs.Tests.{rdh1Tests}
 use Rattle.sanity.specs.TestsLaws.{any-of-2}
@@ -6,15 +6,15 @@ use borrow.Author.Needs.{needs}
 use Rattle.sanity.proofs.rdh1.fails.Statement.{statement}
 use Rattle.sanity.proofs.rdh1.fails.Tie as tie
 
-reserved0-requires : tie.Need-reserved0-requires
-reserved0-requires c κs = search needs
+reserved0-fails-requires : tie.Need-reserved0-fails-requires
+reserved0-fails-requires c κs = search needs
 
-bc-requires : tie.Need-bc-requires
-bc-requires c κs = search needs
+bc-fails-requires : tie.Need-bc-fails-requires
+bc-fails-requires c κs = search needs
 
 returns : tie.Need-returns
 unfolding rdh1Tests
-returns c = rw (c .before .reserved0 .ensures, c .bc .ensures) (sym (any-of-2 _ _))
+returns c = rw (c .before .reserved0-fails .ensures, c .bc-fails .ensures) (sym (any-of-2 _ _))
 
 pub fails-spec : {M : Type 1} → statement M
-fails-spec = tie.close (tie.spec reserved0-requires bc-requires returns)
+fails-spec = tie.close (tie.spec reserved0-fails-requires bc-fails-requires returns)

@@ -1,9 +1,7 @@
 -- Nothing where no test of the FEE id fails; else their pieces between brackets.
-use mathlib.Core.Bool.{not}
-use mathlib.Core.Path.{ap, sym, _∙_}
 use native.Mathlib.Omega.{arith}
 use Rattle.text.specs.PutLaws.{and-then}
-use Rattle.sanity.specs.Tests.{anyFails, feeIdTests}
+use Rattle.sanity.specs.Tests.{feeIdTest}
 use Rattle.sanity_texts.proofs.Pieces.{failed, passed}
 use borrow.Author.Needs.{needs}
 use Rattle.sanity_texts.proofs.rdh0.put_fee_id.Statement.{statement}
@@ -13,9 +11,7 @@ fails-requires : tie.Need-fails-requires
 fails-requires c κs = search needs
 
 returns : tie.Need-returns
-returns c =
-    let args = c .before .before .before .args in
-    passed (anyFails (feeIdTests (args .fee-id .0))) _ _ _ (ap not (sym (c .before .fails .ensures)) ∙ c .if1 .taken) (omega arith) (omega arith)
+returns c = passed (feeIdTest (c .before .before .before .args .rdh0)) _ _ (c .before .fails .ensures) (c .if1 .taken) (omega arith) (omega arith)
 
 slice-aggregate-put-bytes : tie.Need-slice-aggregate-put-bytes
 slice-aggregate-put-bytes c = search needs
@@ -41,8 +37,7 @@ returns-2 c =
     let inner = close-bracket .before .before .before .before .before in
     let open-bracket = inner .before .before .before .before in
     let test = open-bracket .before .before .before in
-    let args = test .before .before .before .args in
-    failed (anyFails (feeIdTests (args .fee-id .0))) (ap not (sym (test .before .fails .ensures)) ∙ test .if1 .left)
+    failed (feeIdTest (test .before .before .before .args .rdh0)) (test .before .fails .ensures) (test .if1 .left)
     (and-then (and-then (open-bracket .put-bytes .ensures) (inner .put .ensures)) (close-bracket .put-bytes2 .ensures))
 
 pub put-fee-id-spec : {M : Type 1} → statement M

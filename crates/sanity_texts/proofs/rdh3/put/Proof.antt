@@ -1,15 +1,9 @@
 -- The heading and the two pieces, one behind the other, where any test fails.
-use Rattle.text.specs.PutLaws.{and-then, respelled}
-use Rattle.sanity.specs.Tests.{pieces, rdh3Tests}
-use Rattle.sanity_texts.proofs.Pieces.{a-section, last-piece, no-section}
-use Prim.Native.Nat.{ℕ}
-use mathlib.Core.Bool.{not}
-use mathlib.Core.Path.{ap}
-use mathlib.Core.List.{[]}
-use lib.Dec.{eqb}
-use Rattle.basis.specs.Pick.{pick}
-use Rattle.sanity.specs.Tests.{hexPiece}
+use mathlib.Core.Path.{refl}
 use native.Mathlib.Omega.{arith}
+use Rattle.text.specs.PutLaws.{and-then}
+use Rattle.sanity.specs.Tests.{detectorFieldTest, pieces, rdh3ReservedTest, rdh3Tests}
+use Rattle.sanity_texts.proofs.Pieces.{failed, headed, last-piece, passed, tested}
 use borrow.Author.Needs.{needs}
 use Rattle.sanity_texts.proofs.rdh3.put.Statement.{statement}
 use Rattle.sanity_texts.proofs.rdh3.put.Tie as tie
@@ -18,18 +12,16 @@ fails-requires : tie.Need-fails-requires
 fails-requires c κs = search needs
 
 returns : tie.Need-returns
-returns c =
-    let args = c .before .before .before .args in
-    no-section "RDH3: " (rdh3Tests (args .rdh3)) _ _ (c .before .fails .ensures) (c .if1 .taken) (omega arith) (omega arith)
-
-reserved-bits-12-to-23-requires : tie.Need-reserved-bits-12-to-23-requires
-reserved-bits-12-to-23-requires c κs = search needs
+returns c = passed (headed "RDH3: " (rdh3Tests (c .before .before .before .args .rdh3))) _ _ (c .before .fails .ensures) (c .if1 .taken) (omega arith) (omega arith)
 
 slice-aggregate-put-bytes : tie.Need-slice-aggregate-put-bytes
 slice-aggregate-put-bytes c = search needs
 
 put-bytes-requires : tie.Need-put-bytes-requires
 put-bytes-requires c κs = search needs
+
+reserved0-fails-requires : tie.Need-reserved0-fails-requires
+reserved0-fails-requires c κs = search needs
 
 slice-aggregate-put-hex : tie.Need-slice-aggregate-put-hex
 slice-aggregate-put-hex c = search needs
@@ -39,6 +31,9 @@ cast-put-hex c = search needs
 
 put-hex-requires : tie.Need-put-hex-requires
 put-hex-requires c κs = search needs
+
+detector-field-fails-requires : tie.Need-detector-field-fails-requires
+detector-field-fails-requires c κs = search needs
 
 slice-aggregate-put-hex-2 : tie.Need-slice-aggregate-put-hex-2
 slice-aggregate-put-hex-2 c = search needs
@@ -56,13 +51,14 @@ returns-2 : tie.Need-returns-2
 unfolding pieces rdh3Tests
 returns-2 c =
     let detector = c .before .before in
-    let reserved = detector .before .before .before .before .before .before in
+    let reserved = detector .before .before .before .before .before .before .before in
     let heading = reserved .before .before .before .before .before .before .before in
-    let test = heading .before .before .before .before in
-    let args = test .before .before .before .args in
-    a-section "RDH3: " (rdh3Tests (args .rdh3)) (test .before .fails .ensures) (test .if1 .left) (heading .put-bytes .ensures)
-    (and-then (reserved .put-hex .ensures)
-    (last-piece (respelled (ap (λ (n : ℕ). pick (not (eqb n 0)) (hexPiece "detector_field = " (args .rdh3 .«detector_field»)) []) (heading .before .before .before .reserved-bits-12-to-23 .ensures)) (detector .put-hex2 .ensures))))
+    let test = heading .before .before .before in
+    let w = test .before .before .before .args .rdh3 in
+    failed (headed "RDH3: " (rdh3Tests w)) (test .before .fails .ensures) (test .if1 .left)
+    (and-then (heading .put-bytes .ensures)
+    (and-then (tested (rdh3ReservedTest w) (reserved .before .before .before .reserved0-fails .ensures) refl (reserved .put-hex .ensures))
+    (last-piece (tested (detectorFieldTest w) (detector .before .before .before .detector-field-fails .ensures) refl (detector .put-hex2 .ensures)))))
 
 pub put-spec : {M : Type 1} → statement M
 put-spec =
@@ -70,12 +66,13 @@ put-spec =
     (tie.spec
     fails-requires
     returns
-    reserved-bits-12-to-23-requires
     slice-aggregate-put-bytes
     put-bytes-requires
+    reserved0-fails-requires
     slice-aggregate-put-hex
     cast-put-hex
     put-hex-requires
+    detector-field-fails-requires
     slice-aggregate-put-hex-2
     cast-put-hex-2
     put-hex-requires-2
