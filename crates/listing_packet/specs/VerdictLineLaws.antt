@@ -38,7 +38,7 @@ module _ (v : RdhCruSanityValidator) (h : RdhCru) (small : expectedId (v .«head
   -- 512 bytes are always enough for a verdict's text (V6)
   pub text-fits : length (textOf v h) ≤ 512
   unfolding textOf
-  text-fits = suffice _ _ h small fits
+  text-fits = suffice _ h small fits
 
   module _ (position : ℕ) (l : List ℕ) (room : length l ≡ 512) (r : SanityCheck) (m : List ℕ) (checks : Checks v h l r m) where
     enough : length (textOf v h) ≤ length l

@@ -13,6 +13,7 @@ use Rattle.rdh.specs.declared.rdh2.Rdh2.{Rdh2}
 use Rattle.rdh.specs.declared.rdh3.Rdh3.{Rdh3}
 use Rattle.rdh.specs.declared.rdh_cru.RdhCru.{RdhCru}
 use Rattle.rdh.specs.Subfields.{bcOf, bcReservedOf, dataFormatOf, dwOf, layerOf, staveOf}
+use Rattle.sanity.specs.declared.Criteria.{Criteria}
 use Rattle.text.specs.Ascii.{ascii}
 use Rattle.text_numbers.specs.Numerals.{decimal, hex}
 
@@ -58,11 +59,11 @@ layerTest fee = test (ltb 6 (layerOf fee)) (decimalPiece "layer = " (layerOf fee
 unfoldable pub feeIdTests : ℕ → List Test
 feeIdTests fee = feeIdReservedTest fee ∷ staveTest fee ∷ layerTest fee ∷ []
 
--- The tests of RDH0 (V4). The expected header ID is the validator's; the system id is tested with ITS alone.
-abbrev pub headerIdTest : ℕ → Rdh0 → Test
-headerIdTest expected w =
-    test (not (eqb (w .«header_id») expected))
-    (ascii "Header ID = " ++ decimal (w .«header_id») ++ ascii " (expected " ++ decimal expected ++ ascii ")")
+-- The tests of RDH0 (V4). The expected header ID is the one that the header is held to; the system id is tested with ITS alone.
+abbrev pub headerIdTest : Criteria → Rdh0 → Test
+headerIdTest criteria w =
+    test (not (eqb (w .«header_id») (criteria .«header_id»)))
+    (ascii "Header ID = " ++ decimal (w .«header_id») ++ ascii " (expected " ++ decimal (criteria .«header_id») ++ ascii ")")
 
 abbrev pub headerSizeTest : Rdh0 → Test
 headerSizeTest w = test (not (eqb (w .«header_size») 64)) (hexPiece "Header size = " (w .«header_size»))
@@ -74,15 +75,15 @@ feeIdTest w =
 abbrev pub priorityBitTest : Rdh0 → Test
 priorityBitTest w = test (not (eqb (w .«priority_bit») 0)) (hexPiece "Priority bit = " (w .«priority_bit»))
 
-abbrev pub systemIdTest : Bool → Rdh0 → Test
-systemIdTest its w = test (its && not (eqb (w .«system_id») 32)) (hexPiece "system_id = " (w .«system_id»))
+abbrev pub systemIdTest : Criteria → Rdh0 → Test
+systemIdTest criteria w = test (criteria .its && not (eqb (w .«system_id») 32)) (hexPiece "system_id = " (w .«system_id»))
 
 abbrev pub rdh0ReservedTest : Rdh0 → Test
 rdh0ReservedTest w = test (not (eqb (w .reserved0) 0)) (hexPiece "reserved0 = " (w .reserved0))
 
-unfoldable pub rdh0Tests : ℕ → Bool → Rdh0 → List Test
-rdh0Tests expected its w =
-    headerIdTest expected w ∷ headerSizeTest w ∷ feeIdTest w ∷ priorityBitTest w ∷ systemIdTest its w ∷ rdh0ReservedTest w ∷ []
+unfoldable pub rdh0Tests : Criteria → Rdh0 → List Test
+rdh0Tests criteria w =
+    headerIdTest criteria w ∷ headerSizeTest w ∷ feeIdTest w ∷ priorityBitTest w ∷ systemIdTest criteria w ∷ rdh0ReservedTest w ∷ []
 
 -- The tests of RDH1: the reserved part of BC is 0; BC is at most 0xdeb (V4).
 abbrev pub rdh1ReservedTest : Rdh1 → Test
@@ -132,24 +133,24 @@ unfoldable pub cruTests : RdhCru → List Test
 cruTests h = dwTest h ∷ dataFormatTest h ∷ []
 
 -- All tests there are (V3).
-unfoldable pub allTests : ℕ → Bool → RdhCru → List Test
-allTests expected its h =
-    rdh0Tests expected its (h .rdh0) ++ rdh1Tests (h .rdh1) ++ rdh2Tests (h .rdh2) ++ rdh3Tests (h .rdh3) ++ cruTests h
+unfoldable pub allTests : Criteria → RdhCru → List Test
+allTests criteria h =
+    rdh0Tests criteria (h .rdh0) ++ rdh1Tests (h .rdh1) ++ rdh2Tests (h .rdh2) ++ rdh3Tests (h .rdh3) ++ cruTests h
 
 -- A header is sound if none fails (V3).
-unfoldable pub sound : ℕ → Bool → RdhCru → Bool
-sound expected its h = not (anyFails (allTests expected its h))
+unfoldable pub sound : Criteria → RdhCru → Bool
+sound criteria h = not (anyFails (allTests criteria h))
 
 -- The text that names the failures in their order, each word's under its heading (V5).
-unfoldable pub failureText : ℕ → Bool → RdhCru → List ℕ
-failureText expected its h =
+unfoldable pub failureText : Criteria → RdhCru → List ℕ
+failureText criteria h =
     ascii "[E10] RDH sanity check failed: "
-    ++ section "RDH0: " (rdh0Tests expected its (h .rdh0))
+    ++ section "RDH0: " (rdh0Tests criteria (h .rdh0))
     ++ section "RDH1: " (rdh1Tests (h .rdh1))
     ++ section "RDH2: " (rdh2Tests (h .rdh2))
     ++ section "RDH3: " (rdh3Tests (h .rdh3))
     ++ pieces (cruTests h)
 
 -- A sound header has an empty text (V5).
-unfoldable pub verdictText : ℕ → Bool → RdhCru → List ℕ
-verdictText expected its h = pick (sound expected its h) [] (failureText expected its h)
+unfoldable pub verdictText : Criteria → RdhCru → List ℕ
+verdictText criteria h = pick (sound criteria h) [] (failureText criteria h)

@@ -11,11 +11,17 @@ pub mod rdh1;
 pub mod rdh2;
 pub mod rdh3;
 
+// What a header is held to: its header ID, and whether its system id has to be that of the ITS.
+pub struct Criteria {
+    pub header_id: u8,
+    pub its: bool,
+}
+
 // Whether any test fails. No text is made.
-pub fn fails(expected: u8, its: bool, rdh: RdhCru) -> bool
-    ensures { λ r. ⌜ r ≡ anyFails (allTests expected its rdh) ⌝ }
+pub fn fails(criteria: Criteria, rdh: RdhCru) -> bool
+    ensures { λ r. ⌜ r ≡ anyFails (allTests criteria rdh) ⌝ }
 {
-    let rdh0 = rdh0::fails(expected, its, rdh.rdh0);
+    let rdh0 = rdh0::fails(criteria, rdh.rdh0);
     let rdh1 = rdh1::fails(rdh.rdh1);
     let rdh2 = rdh2::fails(rdh.rdh2);
     let rdh3 = rdh3::fails(rdh.rdh3);

@@ -1,6 +1,7 @@
 // The tests of RDH0: header ID, header size, FEE id, priority bit, system id and reserved bits.
 ghost use mathlib.Core.Path.{_≡_};
 ghost use Rattle.sanity.specs.Tests.{anyFails, headerIdTest, headerSizeTest, priorityBitTest, rdh0ReservedTest, rdh0Tests, systemIdTest};
+use crate::Criteria;
 use crate::fee_id;
 use rdh::rdh0::Rdh0;
 
@@ -8,21 +9,21 @@ const HEADER_SIZE: u8 = 0x40;
 
 const ITS_SYSTEM_ID: u8 = 32;
 
-pub fn fails(expected: u8, its: bool, rdh0: Rdh0) -> bool
-    ensures { λ r. ⌜ r ≡ anyFails (rdh0Tests expected its rdh0) ⌝ }
+pub fn fails(criteria: Criteria, rdh0: Rdh0) -> bool
+    ensures { λ r. ⌜ r ≡ anyFails (rdh0Tests criteria rdh0) ⌝ }
 {
-    let header_id = header_id_fails(expected, rdh0);
+    let header_id = header_id_fails(criteria, rdh0);
     let header_size = header_size_fails(rdh0);
     let fee_id = fee_id::fails(rdh0.fee_id);
     let priority_bit = priority_bit_fails(rdh0);
-    let system_id = system_id_fails(its, rdh0);
+    let system_id = system_id_fails(criteria, rdh0);
     header_id | header_size | fee_id | priority_bit | system_id | reserved0_fails(rdh0)
 }
 
-pub fn header_id_fails(expected: u8, rdh0: Rdh0) -> bool
-    ensures { λ r. ⌜ r ≡ headerIdTest expected rdh0 .fails ⌝ }
+pub fn header_id_fails(criteria: Criteria, rdh0: Rdh0) -> bool
+    ensures { λ r. ⌜ r ≡ headerIdTest criteria rdh0 .fails ⌝ }
 {
-    rdh0.header_id != expected
+    rdh0.header_id != criteria.header_id
 }
 
 pub fn header_size_fails(rdh0: Rdh0) -> bool
@@ -38,10 +39,10 @@ pub fn priority_bit_fails(rdh0: Rdh0) -> bool
 }
 
 // Tested with ITS alone.
-pub fn system_id_fails(its: bool, rdh0: Rdh0) -> bool
-    ensures { λ r. ⌜ r ≡ systemIdTest its rdh0 .fails ⌝ }
+pub fn system_id_fails(criteria: Criteria, rdh0: Rdh0) -> bool
+    ensures { λ r. ⌜ r ≡ systemIdTest criteria rdh0 .fails ⌝ }
 {
-    its & (rdh0.system_id != ITS_SYSTEM_ID)
+    criteria.its & (rdh0.system_id != ITS_SYSTEM_ID)
 }
 
 pub fn reserved0_fails(rdh0: Rdh0) -> bool

@@ -3,6 +3,7 @@
 ghost use Rattle.sanity.specs.Tests.{failureText};
 ghost use Rattle.text.specs.Put.{Put};
 use rdh::rdh_cru::RdhCru;
+use sanity::Criteria;
 
 mod cru;
 mod fee_id;
@@ -13,11 +14,11 @@ mod rdh2;
 mod rdh3;
 
 // The text of a header that is not sound.
-pub fn put_text(out: &mut [u8], at: usize, expected: u8, its: bool, rdh: RdhCru) -> usize
-    ensures { λ r. ⌜ Put (now (out .entry)) at (failureText expected its rdh) (now (out .exit)) r ⌝ }
+pub fn put_text(out: &mut [u8], at: usize, criteria: Criteria, rdh: RdhCru) -> usize
+    ensures { λ r. ⌜ Put (now (out .entry)) at (failureText criteria rdh) (now (out .exit)) r ⌝ }
 {
     let at = text::put_bytes(out, at, b"[E10] RDH sanity check failed: ");
-    let at = rdh0::put(out, at, expected, its, rdh.rdh0);
+    let at = rdh0::put(out, at, criteria, rdh.rdh0);
     let at = rdh1::put(out, at, rdh.rdh1);
     let at = rdh2::put(out, at, rdh.rdh2);
     let at = rdh3::put(out, at, rdh.rdh3);

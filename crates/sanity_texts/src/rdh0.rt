@@ -6,6 +6,7 @@ ghost use Rattle.text.specs.Put.{Put};
 use crate::fee_id;
 use crate::piece;
 use rdh::rdh0::Rdh0;
+use sanity::Criteria;
 use sanity::rdh0::fails;
 use sanity::rdh0::header_id_fails;
 use sanity::rdh0::header_size_fails;
@@ -13,14 +14,14 @@ use sanity::rdh0::priority_bit_fails;
 use sanity::rdh0::reserved0_fails;
 use sanity::rdh0::system_id_fails;
 
-pub(crate) fn put(out: &mut [u8], at: usize, expected: u8, its: bool, rdh0: Rdh0) -> usize
-    ensures { λ r. ⌜ Put (now (out .entry)) at (section "RDH0: " (rdh0Tests expected its rdh0)) (now (out .exit)) r ⌝ }
+pub(crate) fn put(out: &mut [u8], at: usize, criteria: Criteria, rdh0: Rdh0) -> usize
+    ensures { λ r. ⌜ Put (now (out .entry)) at (section "RDH0: " (rdh0Tests criteria rdh0)) (now (out .exit)) r ⌝ }
 {
-    if !fails(expected, its, rdh0) {
+    if !fails(criteria, rdh0) {
         return at;
     }
     let at = text::put_bytes(out, at, b"RDH0: ");
-    let at = put_header_id(out, at, expected, rdh0);
+    let at = put_header_id(out, at, criteria, rdh0);
     let at = piece::put_hex(
         out,
         at,
@@ -39,7 +40,7 @@ pub(crate) fn put(out: &mut [u8], at: usize, expected: u8, its: bool, rdh0: Rdh0
     let at = piece::put_hex(
         out,
         at,
-        system_id_fails(its, rdh0),
+        system_id_fails(criteria, rdh0),
         b"system_id = ",
         rdh0.system_id as u64,
     );
@@ -53,17 +54,17 @@ pub(crate) fn put(out: &mut [u8], at: usize, expected: u8, its: bool, rdh0: Rdh0
 }
 
 // No blank stands behind this piece, as in the Rust.
-fn put_header_id(out: &mut [u8], at: usize, expected: u8, rdh0: Rdh0) -> usize
-    ensures { λ r. ⌜ Put (now (out .entry)) at (pick (headerIdTest expected rdh0 .fails) (headerIdTest expected rdh0 .piece) [])
+fn put_header_id(out: &mut [u8], at: usize, criteria: Criteria, rdh0: Rdh0) -> usize
+    ensures { λ r. ⌜ Put (now (out .entry)) at (pick (headerIdTest criteria rdh0 .fails) (headerIdTest criteria rdh0 .piece) [])
         (now (out .exit)) r ⌝ }
 {
-    if !header_id_fails(expected, rdh0) {
+    if !header_id_fails(criteria, rdh0) {
         return at;
     }
     let at = text::put_bytes(out, at, b"Header ID = ");
     let at = text_numbers::put_decimal(out, at, rdh0.header_id as u64);
     let at = text::put_bytes(out, at, b" (expected ");
-    let at = text_numbers::put_decimal(out, at, expected as u64);
+    let at = text_numbers::put_decimal(out, at, criteria.header_id as u64);
     text::put_bytes(out, at, b")")
 }
 

@@ -14,7 +14,8 @@ use Rattle.rdh.specs.Subfields.{bcOf, bcReservedOf, dataFormatOf, dwOf, layerOf
 use Rattle.text.specs.Ascii.{ascii}
 use Rattle.text_numbers.specs.Numerals.{decimal, hex, numeral}
 use Rattle.text_numbers.specs.NumeralLaws.{length-hex, length-numeral}
-use Rattle.sanity.specs.Tests.{Test, anyFails, hexPiece, decimalPiece, pieces, section, feeIdTests, rdh0Tests, rdh1Tests, rdh2Tests, rdh3Tests, cruTests, failureText}
+use Rattle.sanity.specs.declared.Criteria.{Criteria}
+use Rattle.sanity.specs.Tests.{Test, anyFails, feeIdTest, headerIdTest, hexPiece, decimalPiece, pieces, section, feeIdTests, rdh0Tests, rdh1Tests, rdh2Tests, rdh3Tests, cruTests, failureText}
 
 length-pick : (b : Bool) (t : List ℕ) → length (pick b t []) ≤ length t
 length-pick true t = omega arith
@@ -55,21 +56,20 @@ module _ (h : RdhCru) (fits : InRange h) where
       (and-piece _ _ (decimal-piece "stave number = " 1 (staveOf fee) (omega arith))
       (and-piece _ _ (decimal-piece "layer = " 0 (layerOf fee) (omega arith)) no-piece))
 
-  header-id-piece : (expected : ℕ) → expected < 256
-      → length (ascii "Header ID = " ++ decimal (h .rdh0 .«header_id») ++ ascii " (expected " ++ decimal expected ++ ascii ")") ≤ 30
+  header-id-piece : (criteria : Criteria) → criteria .«header_id» < 256 → length (headerIdTest criteria (h .rdh0) .piece) ≤ 30
   unfolding span value
-  header-id-piece expected small =
+  header-id-piece criteria small =
       simp length-append
-      (omega (arith, length-decimal 2 (h .rdh0 .«header_id») (omega (arith, fits header-id)), length-decimal 2 expected (omega arith)))
+      (omega (arith, length-decimal 2 (h .rdh0 .«header_id») (omega (arith, fits header-id)), length-decimal 2 (criteria .«header_id») (omega arith)))
 
-  fee-id-piece : length (ascii "FEE ID = [" ++ pieces (feeIdTests (h .rdh0 .«fee_id» .0)) ++ ascii "] ") ≤ 63
+  fee-id-piece : length (feeIdTest (h .rdh0) .piece) ≤ 63
   fee-id-piece = simp length-append (omega (arith, fee-id-pieces))
 
-  rdh0-section : (expected : ℕ) (its : Bool) → expected < 256 → length (section "RDH0: " (rdh0Tests expected its (h .rdh0))) ≤ 174
+  rdh0-section : (criteria : Criteria) → criteria .«header_id» < 256 → length (section "RDH0: " (rdh0Tests criteria (h .rdh0))) ≤ 174
   unfolding rdh0Tests span value
-  rdh0-section expected its small =
+  rdh0-section criteria small =
       under "RDH0: " _
-      (and-piece _ _ (header-id-piece expected small)
+      (and-piece _ _ (header-id-piece criteria small)
       (and-piece _ _ (hex-piece "Header size = " 1 (h .rdh0 .«header_size») (omega (arith, fits header-size)))
       (and-piece _ _ fee-id-piece
       (and-piece _ _ (hex-piece "Priority bit = " 1 (h .rdh0 .«priority_bit») (omega (arith, fits priority-bit)))
@@ -105,8 +105,8 @@ module _ (h : RdhCru) (fits : InRange h) where
       and-piece _ _ (hex-piece "dw = " 0 (dwOf (h .«cruid_dw» .0)) (omega arith))
       (and-piece _ _ (hex-piece "data format = " 1 (dataFormatOf (h .«dataformat_reserved0» .0)) (omega arith)) no-piece)
 
-  pub longest-text : (expected : ℕ) (its : Bool) → expected < 256 → length (failureText expected its h) ≤ 406
+  pub longest-text : (criteria : Criteria) → criteria .«header_id» < 256 → length (failureText criteria h) ≤ 406
   unfolding failureText
-  longest-text expected its small =
+  longest-text criteria small =
       simp length-append
-      (omega (arith, rdh0-section expected its small, rdh1-section, rdh2-section, rdh3-section, cru-pieces))
+      (omega (arith, rdh0-section criteria small, rdh1-section, rdh2-section, rdh3-section, cru-pieces))

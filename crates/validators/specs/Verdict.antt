@@ -17,6 +17,7 @@ use Rattle.validators.specs.declared.SanityCheck.{SanityCheck}
 use Rattle.validators.specs.declared.Verdict.{Verdict}
 use Rattle.validators.specs.declared.Verdict.the-variants.{Sound, NotSound, TooShort}
 use Rattle.sanity.specs.Tests.{sound, verdictText}
+use Rattle.sanity.specs.declared.Criteria.{Criteria}
 
 -- The header ID that a header with this ID is held to: the configured or settled one, or its own where none is settled yet (V1, V2).
 abbrev pub expectedId : HeaderId → ℕ → ℕ
@@ -30,16 +31,24 @@ settledId (Configured n) id = Configured n
 settledId NotSettled id = Settled id
 settledId (Settled n) id = Settled n
 
+-- What a validator holds a header to (V1, V2).
+abbrev pub criteriaOf : RdhCruSanityValidator → RdhCru → Criteria
+criteriaOf v h = record { «header_id» = expectedId (v .«header_id») (h .rdh0 .«header_id»); its = v .its }
+
 -- Whether a validator finds a header sound, and its text.
 unfoldable pub soundTo : RdhCruSanityValidator → RdhCru → Bool
-soundTo v h = sound (expectedId (v .«header_id») (h .rdh0 .«header_id»)) (v .its) h
+soundTo v h = sound (criteriaOf v h) h
 
 unfoldable pub textOf : RdhCruSanityValidator → RdhCru → List ℕ
-textOf v h = verdictText (expectedId (v .«header_id») (h .rdh0 .«header_id»)) (v .its) h
+textOf v h = verdictText (criteriaOf v h) h
+
+-- The same validator, with another header ID.
+abbrev pub holding : RdhCruSanityValidator → HeaderId → RdhCruSanityValidator
+holding v id = record { «header_id» = id; its = v .its }
 
 -- The validator once a header has been checked.
 unfoldable pub settledBy : RdhCruSanityValidator → RdhCru → RdhCruSanityValidator
-settledBy v h = record { «header_id» = settledId (v .«header_id») (h .rdh0 .«header_id»); its = v .its }
+settledBy v h = holding v (settledId (v .«header_id») (h .rdh0 .«header_id»))
 
 -- A verdict: sound or not, and the text's length.
 pub record Judged : Type 0 where

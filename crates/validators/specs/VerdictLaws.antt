@@ -16,44 +16,44 @@ use Rattle.serde_rdh.specs.Layout.{InRange}
 use Rattle.text.specs.Put.{Put}
 use Rattle.text.specs.Written.{overwritten}
 use Rattle.text.specs.WrittenLaws.{fitting}
-use Rattle.validators.specs.declared.HeaderId.{HeaderId}
 use Rattle.validators.specs.declared.RdhCruSanityValidator.{RdhCruSanityValidator}
 use Rattle.validators.specs.declared.Verdict.the-variants.{Sound, NotSound, TooShort}
+use Rattle.sanity.specs.declared.Criteria.{Criteria}
 use Rattle.sanity.specs.Tests.{allTests, anyFails, failureText, sound, verdictText}
 use Rattle.validators.specs.TextLengths.{longest-text}
-use Rattle.validators.specs.Verdict.{Checks, Judged, answered, expectedId, settledBy, settledId, soundTo, textOf, validatorAfter}
+use Rattle.validators.specs.Verdict.{Checks, Judged, answered, criteriaOf, settledBy, soundTo, textOf, validatorAfter}
 
 -- the text of a sound header is empty, and of another the one that names its failures
-pub sound-text : (expected : ℕ) (its : Bool) (h : RdhCru) → sound expected its h ≡ true → verdictText expected its h ≡ []
+pub sound-text : (criteria : Criteria) (h : RdhCru) → sound criteria h ≡ true → verdictText criteria h ≡ []
 unfolding verdictText
-sound-text expected its h e = on _ _ e
+sound-text criteria h e = on _ _ e
 
-pub unsound-text : (expected : ℕ) (its : Bool) (h : RdhCru) → sound expected its h ≡ false
-    → verdictText expected its h ≡ failureText expected its h
+pub unsound-text : (criteria : Criteria) (h : RdhCru) → sound criteria h ≡ false
+    → verdictText criteria h ≡ failureText criteria h
 unfolding verdictText
-unsound-text expected its h e = off _ _ e
+unsound-text criteria h e = off _ _ e
 
 -- a text that names failures is not empty
-some-text : (expected : ℕ) (its : Bool) (h : RdhCru) → 0 < length (failureText expected its h)
+some-text : (criteria : Criteria) (h : RdhCru) → 0 < length (failureText criteria h)
 unfolding failureText
-some-text expected its h = simp length-append (omega arith)
+some-text criteria h = simp length-append (omega arith)
 
 -- a header is sound exactly when its text is empty
-pub sound-empty : (expected : ℕ) (its : Bool) (h : RdhCru) → (sound expected its h ≡ true) ↔ (verdictText expected its h ≡ [])
-sound-empty expected its h = (sound-text expected its h, λ e. go (sound expected its h) refl e)
+pub sound-empty : (criteria : Criteria) (h : RdhCru) → (sound criteria h ≡ true) ↔ (verdictText criteria h ≡ [])
+sound-empty criteria h = (sound-text criteria h, λ e. go (sound criteria h) refl e)
   where
-    go : (b : Bool) → sound expected its h ≡ b → verdictText expected its h ≡ [] → sound expected its h ≡ true
+    go : (b : Bool) → sound criteria h ≡ b → verdictText criteria h ≡ [] → sound criteria h ≡ true
     go true is e = is
     go false is e =
-        absurd (omega (arith, some-text expected its h, ap length (sym (unsound-text expected its h is) ∙ e)))
+        absurd (omega (arith, some-text criteria h, ap length (sym (unsound-text criteria h is) ∙ e)))
 
 -- 512 bytes are always enough (V6)
-pub suffice : (expected : ℕ) (its : Bool) (h : RdhCru) → expected < 256 → InRange h → length (verdictText expected its h) ≤ 512
-suffice expected its h small fits = go (sound expected its h) refl
+pub suffice : (criteria : Criteria) (h : RdhCru) → criteria .«header_id» < 256 → InRange h → length (verdictText criteria h) ≤ 512
+suffice criteria h small fits = go (sound criteria h) refl
   where
-    go : (b : Bool) → sound expected its h ≡ b → length (verdictText expected its h) ≤ 512
-    go true is = omega (arith, ap length (sound-text expected its h is))
-    go false is = omega (arith, ap length (unsound-text expected its h is), longest-text h fits expected its small)
+    go : (b : Bool) → sound criteria h ≡ b → length (verdictText criteria h) ≤ 512
+    go true is = omega (arith, ap length (sound-text criteria h is))
+    go false is = omega (arith, ap length (unsound-text criteria h is), longest-text h fits criteria small)
 
 module _ (v : RdhCruSanityValidator) (h : RdhCru) (l : List ℕ) where
   -- a text that fits: the verdict, the ID settled, and the text over the buffer's start
@@ -66,17 +66,11 @@ module _ (v : RdhCruSanityValidator) (h : RdhCru) (l : List ℕ) where
   unfolding validatorAfter
   after-fitting fits = on _ _ (le-leb _ _ fits)
 
-module _ (v : RdhCruSanityValidator) (h : RdhCru) (l : List ℕ) (settled : HeaderId)
-    (is-settled : settled ≡ settledId (v .«header_id») (h .rdh0 .«header_id»)) where
-  settles : _≡_ {A = RdhCruSanityValidator} (record { «header_id» = settled; its = v .its }) (settledBy v h)
-  unfolding settledBy
-  settles = ap (λ (n : HeaderId). record { «header_id» = n; its = v .its }) is-settled
-
-  pub checks-sound : soundTo v h ≡ true
-      → Checks v h l (record { verdict = Sound; validator = record { «header_id» = settled; its = v .its } }) l
+module _ (v : RdhCruSanityValidator) (h : RdhCru) (l : List ℕ) (w : RdhCruSanityValidator) (settles : w ≡ settledBy v h) where
+  pub checks-sound : soundTo v h ≡ true → Checks v h l (record { verdict = Sound; validator = w }) l
   unfolding soundTo textOf overwritten
   checks-sound e =
-      let text : textOf v h ≡ [] = sound-text _ _ _ e in
+      let text : textOf v h ≡ [] = sound-text _ _ e in
       let fits : length (textOf v h) ≤ length l = omega (arith, ap length text) in
       record {
         verdict =
@@ -87,7 +81,7 @@ module _ (v : RdhCruSanityValidator) (h : RdhCru) (l : List ℕ) (settled : Head
       }
 
   pub checks-unsound : {m : List ℕ} {n : ℕ} → soundTo v h ≡ false → length (textOf v h) ≤ length l → Put l 0 (textOf v h) m n
-      → Checks v h l (record { verdict = NotSound n; validator = record { «header_id» = settled; its = v .its } }) m
+      → Checks v h l (record { verdict = NotSound n; validator = w }) m
   checks-unsound {n = n} e fits p =
       let is : n ≡ length (textOf v h) = omega (arith, p .next, p .room) in
       record {
@@ -109,14 +103,13 @@ checks-too-short v h l is short =
       leaves = sym (off _ _ (lt-leb _ _ longer));
     }
 
-module _ (v : RdhCruSanityValidator) (h : RdhCru) (expected : ℕ)
-    (is-expected : expected ≡ expectedId (v .«header_id») (h .rdh0 .«header_id»)) where
+module _ (v : RdhCruSanityValidator) (h : RdhCru) (criteria : Criteria) (its-own : criteria ≡ criteriaOf v h) where
   -- a header is sound where no test fails
-  pub judged : {fails b : Bool} → fails ≡ anyFails (allTests expected (v .its) h) → not fails ≡ b → soundTo v h ≡ b
+  pub judged : {fails b : Bool} → fails ≡ anyFails (allTests criteria h) → not fails ≡ b → soundTo v h ≡ b
   unfolding soundTo sound
-  judged is e = sym (ap not is ∙ ap (λ (n : ℕ). not (anyFails (allTests n (v .its) h))) is-expected) ∙ e
+  judged is e = sym (ap not is ∙ ap (λ (k : Criteria). not (anyFails (allTests k h))) its-own) ∙ e
 
   -- and otherwise its text names the failures
-  pub named : soundTo v h ≡ false → failureText expected (v .its) h ≡ textOf v h
+  pub named : soundTo v h ≡ false → failureText criteria h ≡ textOf v h
   unfolding soundTo textOf
-  named e = ap (λ (n : ℕ). failureText n (v .its) h) is-expected ∙ sym (unsound-text _ _ _ e)
+  named e = ap (λ (k : Criteria). failureText k h) its-own ∙ sym (unsound-text _ _ e)

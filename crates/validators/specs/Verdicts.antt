@@ -11,8 +11,7 @@ use Rattle.rdh.specs.declared.rdh_cru.RdhCru.{RdhCru}
 use Rattle.validators.specs.declared.HeaderId.{HeaderId}
 use Rattle.validators.specs.declared.HeaderId.the-variants.{Configured, NotSettled, Settled}
 use Rattle.validators.specs.declared.RdhCruSanityValidator.{RdhCruSanityValidator}
-use Rattle.sanity.specs.Tests.{verdictText}
-use Rattle.validators.specs.Verdict.{Judged, answered, settledBy, textOf, validatorAfter}
+use Rattle.validators.specs.Verdict.{Judged, answered, holding, settledBy, textOf, validatorAfter}
 
 -- A header put, and the length of the text buffer lent.
 pub record Call : Type 0 where
@@ -40,21 +39,21 @@ replies v (c ∷ cs) = reply v c ∷ replies (validatorAfter v (c .header) (c .r
 abbrev pub idOf : Call → ℕ
 idOf c = c .header .rdh0 .«header_id»
 
--- Whether a call settles the ID on a validator that has settled none: its text, for a header held to its own ID, fits the buffer.
-unfoldable pub settling : Bool → Call → Bool
-settling its c = leb (length (verdictText (idOf c) its (c .header))) (c .room)
+-- Whether a call would settle the ID on this validator, had it settled none: its text, for a header held to its own ID, fits the buffer.
+unfoldable pub settling : RdhCruSanityValidator → Call → Bool
+settling v c = leb (length (textOf (holding v NotSettled) (c .header))) (c .room)
 
 -- The ID that the first call of the list settles that is not refused (V2).
-unfoldable pub firstSettled : Bool → List Call → HeaderId
-firstSettled its [] = NotSettled
-firstSettled its (c ∷ cs) = pick (settling its c) (Settled (idOf c)) (firstSettled its cs)
+unfoldable pub firstSettled : RdhCruSanityValidator → List Call → HeaderId
+firstSettled v [] = NotSettled
+firstSettled v (c ∷ cs) = pick (settling v c) (Settled (idOf c)) (firstSettled v cs)
 
 -- What a validator holds headers to after a list of calls: a version or a settled ID stays (V1, V2).
-unfoldable pub settledOver : HeaderId → Bool → List Call → HeaderId
-settledOver (Configured n) its cs = Configured n
-settledOver NotSettled its cs = firstSettled its cs
-settledOver (Settled n) its cs = Settled n
+unfoldable pub settledOver : RdhCruSanityValidator → HeaderId → List Call → HeaderId
+settledOver v (Configured n) cs = Configured n
+settledOver v NotSettled cs = firstSettled v cs
+settledOver v (Settled n) cs = Settled n
 
 -- The validator after a list of calls.
 unfoldable pub validatorOver : RdhCruSanityValidator → List Call → RdhCruSanityValidator
-validatorOver v cs = record { «header_id» = settledOver (v .«header_id») (v .its) cs; its = v .its }
+validatorOver v cs = holding v (settledOver v (v .«header_id») cs)

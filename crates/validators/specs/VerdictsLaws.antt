@@ -10,7 +10,7 @@ use Rattle.rdh.specs.declared.rdh_cru.RdhCru.{RdhCru}
 use Rattle.validators.specs.declared.HeaderId.{HeaderId}
 use Rattle.validators.specs.declared.HeaderId.the-variants.{Configured, NotSettled, Settled}
 use Rattle.validators.specs.declared.RdhCruSanityValidator.{RdhCruSanityValidator}
-use Rattle.validators.specs.Verdict.{settledBy, textOf, validatorAfter}
+use Rattle.validators.specs.Verdict.{holding, settledBy, textOf, validatorAfter}
 use Rattle.validators.specs.Verdicts.{Call, Reply, reply, replies, settling, firstSettled, settledOver, validatorOver}
 
 -- The statement: in a list of calls, what is answered to a call that stands behind others is the reply of the validator that
@@ -41,35 +41,27 @@ stays v keeps (c ∷ cs) =
     ap (λ (w : RdhCruSanityValidator). left w cs) kept ∙ stays v keeps cs
 
 -- where none is settled, the first call that is not refused settles its own
-first : (its : Bool) (cs : List Call)
-    → left (record { «header_id» = NotSettled; its = its }) cs ≡ record { «header_id» = firstSettled its cs; its = its }
-unfolding left firstSettled settling validatorAfter settledBy textOf
-first its [] = refl
-first its (c ∷ cs) = go (settling its c) (first its cs)
+first : (v : RdhCruSanityValidator) (cs : List Call) → left (holding v NotSettled) cs ≡ holding v (firstSettled v cs)
+unfolding left firstSettled settling validatorAfter settledBy
+first v [] = refl
+first v (c ∷ cs) = go (settling v c) (first v cs)
   where
-    id : ℕ
-    id = c .header .rdh0 .«header_id»
+    settled : HeaderId
+    settled = Settled (c .header .rdh0 .«header_id»)
 
-    unsettled : RdhCruSanityValidator
-    unsettled = record { «header_id» = NotSettled; its = its }
-
-    settled : RdhCruSanityValidator
-    settled = record { «header_id» = Settled id; its = its }
-
-    go : (b : Bool) → left unsettled cs ≡ record { «header_id» = firstSettled its cs; its = its }
-        → left (pick b settled unsettled) cs ≡ record { «header_id» = pick b (Settled id) (firstSettled its cs); its = its }
-    go true ih = stays settled (λ h. refl) cs
+    go : (b : Bool) → left (holding v NotSettled) cs ≡ holding v (firstSettled v cs)
+        → left (pick b (holding v settled) (holding v NotSettled)) cs ≡ holding v (pick b settled (firstSettled v cs))
+    go true ih = stays (holding v settled) (λ h. refl) cs
     go false ih = ih
 
 over : (v : RdhCruSanityValidator) (cs : List Call) → left v cs ≡ validatorOver v cs
 unfolding validatorOver settledOver settledBy
 over v cs = go (v .«header_id»)
   where
-    go : (i : HeaderId)
-        → left (record { «header_id» = i; its = v .its }) cs ≡ record { «header_id» = settledOver i (v .its) cs; its = v .its }
-    go (Configured n) = stays (record { «header_id» = Configured n; its = v .its }) (λ h. refl) cs
-    go NotSettled = first (v .its) cs
-    go (Settled n) = stays (record { «header_id» = Settled n; its = v .its }) (λ h. refl) cs
+    go : (i : HeaderId) → left (holding v i) cs ≡ holding v (settledOver v i cs)
+    go (Configured n) = stays (holding v (Configured n)) (λ h. refl) cs
+    go NotSettled = first v cs
+    go (Settled n) = stays (holding v (Settled n)) (λ h. refl) cs
 
 in-turn : (v : RdhCruSanityValidator) (earlier : List Call) (c : Call) (later : List Call)
     → replies v (earlier ++ (c ∷ later))

@@ -1,8 +1,9 @@
 // The verdict: whether a header is sound, in the Rust's words.
 ghost use mathlib.Core.Path.{_≡_};
 ghost use Rattle.sanity.specs.Tests.{failureText};
-ghost use Rattle.validators.specs.Verdict.{Checks, Needed, expectedId, settledId};
+ghost use Rattle.validators.specs.Verdict.{Checks, Needed, criteriaOf, expectedId, settledBy, settledId};
 use rdh::rdh_cru::RdhCru;
+use sanity::Criteria;
 
 // The header ID that headers are held to: the configured version; or none yet; or that of the first header checked.
 pub enum HeaderId {
@@ -40,21 +41,15 @@ impl RdhCruSanityValidator {
     pub fn sanity_check(self, rdh: RdhCru, text: &mut [u8]) -> SanityCheck
         ensures { λ r. ⌜ Checks self rdh (now (text .entry)) r (now (text .exit)) ⌝ }
     {
-        let header_id = self.header_id;
-        let its = self.its;
-        let id = rdh.rdh0.header_id;
-        let expected = expected_id(header_id, id);
-        let settled = RdhCruSanityValidator {
-            header_id: settled_id(header_id, id),
-            its,
-        };
-        if !sanity::fails(expected, its, rdh) {
+        let criteria = self.criteria(rdh);
+        let settled = self.settled_by(rdh);
+        if !sanity::fails(criteria, rdh) {
             return SanityCheck {
                 verdict: Verdict::Sound,
                 validator: settled,
             };
         }
-        let need = needed(expected, its, rdh, text.len());
+        let need = needed(criteria, rdh, text.len());
         if text.len() < need {
             return SanityCheck {
                 verdict: Verdict::TooShort(need),
@@ -62,8 +57,30 @@ impl RdhCruSanityValidator {
             };
         }
         SanityCheck {
-            verdict: Verdict::NotSound(sanity_texts::put_text(text, 0, expected, its, rdh)),
+            verdict: Verdict::NotSound(sanity_texts::put_text(text, 0, criteria, rdh)),
             validator: settled, // the ID is settled though the header fails
+        }
+    }
+
+    // What a header is held to.
+    fn criteria(self, rdh: RdhCru) -> Criteria
+        ensures { λ r. ⌜ r ≡ criteriaOf self rdh ⌝ }
+    {
+        let header_id = self.header_id;
+        Criteria {
+            header_id: expected_id(header_id, rdh.rdh0.header_id),
+            its: self.its,
+        }
+    }
+
+    // The validator once a header has been checked.
+    fn settled_by(self, rdh: RdhCru) -> RdhCruSanityValidator
+        ensures { λ r. ⌜ r ≡ settledBy self rdh ⌝ }
+    {
+        let header_id = self.header_id;
+        RdhCruSanityValidator {
+            header_id: settled_id(header_id, rdh.rdh0.header_id),
+            its: self.its,
         }
     }
 }
@@ -91,12 +108,12 @@ fn settled_id(header_id: HeaderId, id: u8) -> HeaderId
 }
 
 // The length that the text of a header that is not sound needs, or 0 where any text fits the room.
-fn needed(expected: u8, its: bool, rdh: RdhCru, room: usize) -> usize
-    ensures { λ r. ⌜ Needed (failureText expected its rdh) room r ⌝ }
+fn needed(criteria: Criteria, rdh: RdhCru, room: usize) -> usize
+    ensures { λ r. ⌜ Needed (failureText criteria rdh) room r ⌝ }
 {
     if LONGEST_TEXT <= room {
         return 0;
     }
     let mut none = [0u8; 0];
-    sanity_texts::put_text(&mut none, 0, expected, its, rdh)
+    sanity_texts::put_text(&mut none, 0, criteria, rdh)
 }

@@ -11,8 +11,8 @@ use Rattle.validators.proofs.needed.Tie as tie
 returns : tie.Need-returns
 returns c =
     let start = c .before in
-    let held = in-range (start .args .rdh) _ (start .good .1 .1 .0) in
-    let longest = longest-text (start .args .rdh) held (start .args .expected) (start .args .its) (omega arith) in
+    let held = in-range (start .args .rdh) _ (start .good .1 .0) in
+    let longest = longest-text (start .args .rdh) held (start .args .criteria) (omega arith) in
     record { fits = λ room. le-trans longest (c .if1 .taken); exact = λ short. omega arith }
 
 slice-aggregate-put-text : tie.Need-slice-aggregate-put-text
@@ -24,8 +24,8 @@ put-text-requires c κs = search needs
 returns-2 : tie.Need-returns-2
 returns-2 c =
     let start = c .before .before .before .before in
-    let held = in-range (start .args .rdh) _ (start .good .1 .1 .0) in
-    let longest = longest-text (start .args .rdh) held (start .args .expected) (start .args .its) (omega arith) in
+    let held = in-range (start .args .rdh) _ (start .good .1 .0) in
+    let longest = longest-text (start .args .rdh) held (start .args .criteria) (omega arith) in
     let is = measured (c .before .put-text .ensures) (omega arith) in
     record { fits = λ room. omega arith; exact = λ short. is }
 

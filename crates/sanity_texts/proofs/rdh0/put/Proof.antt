@@ -15,7 +15,7 @@ fails-requires c κs = search needs
 returns : tie.Need-returns
 returns c =
     let args = c .before .before .before .args in
-    passed (headed "RDH0: " (rdh0Tests (args .expected) (args .its) (args .rdh0))) _ _ (c .before .fails .ensures) (c .if1 .taken) (omega arith) (omega arith)
+    passed (headed "RDH0: " (rdh0Tests (args .criteria) (args .rdh0))) _ _ (c .before .fails .ensures) (c .if1 .taken) (omega arith) (omega arith)
 
 slice-aggregate-put-bytes : tie.Need-slice-aggregate-put-bytes
 slice-aggregate-put-bytes c = search needs
@@ -90,13 +90,13 @@ returns-2 c =
     let test = heading .before .before .before in
     let args = test .before .before .before .args in
     let w = args .rdh0 in
-    failed (headed "RDH0: " (rdh0Tests (args .expected) (args .its) w)) (test .before .fails .ensures) (test .if1 .left)
+    failed (headed "RDH0: " (rdh0Tests (args .criteria) w)) (test .before .fails .ensures) (test .if1 .left)
     (and-then (heading .put-bytes .ensures)
     (and-then (header-id .put-header-id .ensures)
     (and-then (tested (headerSizeTest w) (header-size .before .before .before .header-size-fails .ensures) refl (header-size .put-hex .ensures))
     (and-then (fee-id .put-fee-id .ensures)
     (and-then (tested (priorityBitTest w) (priority .before .before .before .priority-bit-fails .ensures) refl (priority .put-hex2 .ensures))
-    (and-then (tested (systemIdTest (args .its) w) (system .before .before .before .system-id-fails .ensures) refl (system .put-hex3 .ensures))
+    (and-then (tested (systemIdTest (args .criteria) w) (system .before .before .before .system-id-fails .ensures) refl (system .put-hex3 .ensures))
     (last-piece (tested (rdh0ReservedTest w) (reserved .before .before .before .reserved0-fails .ensures) refl (reserved .put-hex4 .ensures)))))))))
 
 same-length : tie.Need-same-length

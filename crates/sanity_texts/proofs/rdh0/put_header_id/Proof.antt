@@ -13,7 +13,7 @@ header-id-fails-requires c κs = search needs
 returns : tie.Need-returns
 returns c =
     let args = c .before .before .before .args in
-    passed (headerIdTest (args .expected) (args .rdh0)) _ _ (c .before .header-id-fails .ensures) (c .if1 .taken) (omega arith) (omega arith)
+    passed (headerIdTest (args .criteria) (args .rdh0)) _ _ (c .before .header-id-fails .ensures) (c .if1 .taken) (omega arith) (omega arith)
 
 slice-aggregate-put-bytes : tie.Need-slice-aggregate-put-bytes
 slice-aggregate-put-bytes c = search needs
@@ -33,6 +33,9 @@ slice-aggregate-put-bytes-2 c = search needs
 put-bytes-requires-2 : tie.Need-put-bytes-requires-2
 put-bytes-requires-2 c κs = search needs
 
+cast-put-decimal-2 : tie.Need-cast-put-decimal-2
+cast-put-decimal-2 c = search needs
+
 put-decimal-requires-2 : tie.Need-put-decimal-requires-2
 put-decimal-requires-2 c κs = search needs
 
@@ -49,12 +52,12 @@ returns-2 : tie.Need-returns-2
 returns-2 c =
     let end = c .before .before in
     let held = end .before .before .before .before .before in
-    let between = held .before .before .before .before in
+    let between = held .before .before .before .before .before in
     let id = between .before .before .before .before .before in
     let label = id .before .before .before .before .before in
     let test = label .before .before .before in
     let args = test .before .before .before .args in
-    failed (headerIdTest (args .expected) (args .rdh0)) (test .before .header-id-fails .ensures) (test .if1 .left)
+    failed (headerIdTest (args .criteria) (args .rdh0)) (test .before .header-id-fails .ensures) (test .if1 .left)
     (and-then (and-then (and-then (and-then (label .put-bytes .ensures) (id .put-decimal .ensures)) (between .put-bytes2 .ensures)) (held .put-decimal2 .ensures)) (end .put-bytes3 .ensures))
 
 pub put-header-id-spec : {M : Type 1} → statement M
@@ -69,6 +72,7 @@ put-header-id-spec =
     put-decimal-requires
     slice-aggregate-put-bytes-2
     put-bytes-requires-2
+    cast-put-decimal-2
     put-decimal-requires-2
     slice-aggregate-put-bytes-3
     put-bytes-requires-3

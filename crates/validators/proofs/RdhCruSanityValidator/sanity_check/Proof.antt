@@ -8,11 +8,11 @@ use borrow.Author.Needs.{needs}
 use Rattle.validators.proofs.RdhCruSanityValidator.sanity_check.Statement.{statement}
 use Rattle.validators.proofs.RdhCruSanityValidator.sanity_check.Tie as tie
 
-expected-id-requires : tie.Need-expected-id-requires
-expected-id-requires c κs = search needs
+criteria-requires : tie.Need-criteria-requires
+criteria-requires c κs = search needs
 
-settled-id-requires : tie.Need-settled-id-requires
-settled-id-requires c κs = search needs
+settled-by-requires : tie.Need-settled-by-requires
+settled-by-requires c κs = search needs
 
 fails-requires : tie.Need-fails-requires
 fails-requires c κs = search needs
@@ -20,8 +20,8 @@ fails-requires c κs = search needs
 returns : tie.Need-returns
 returns c =
     let args = c .before .before .before .before .before .args in
-    checks-sound (args .self) (args .rdh) _ _ (c .before .before .settled-id .ensures)
-    (judged (args .self) (args .rdh) _ (c .before .before .before .expected-id .ensures) (c .before .fails .ensures) (c .if1 .taken))
+    checks-sound (args .self) (args .rdh) _ _ (c .before .before .settled-by .ensures)
+    (judged (args .self) (args .rdh) _ (c .before .before .before .criteria .ensures) (c .before .fails .ensures) (c .if1 .taken))
 
 needed-requires : tie.Need-needed-requires
 needed-requires c κs = search needs
@@ -30,10 +30,10 @@ returns-2 : tie.Need-returns-2
 returns-2 c =
     let test = c .before .before in
     let args = test .before .before .before .before .before .args in
-    let expected = test .before .before .before .expected-id .ensures in
-    let unsound = judged (args .self) (args .rdh) _ expected (test .before .fails .ensures) (test .if1 .left) in
+    let held-to = test .before .before .before .criteria .ensures in
+    let unsound = judged (args .self) (args .rdh) _ held-to (test .before .fails .ensures) (test .if1 .left) in
     checks-too-short (args .self) (args .rdh) _
-    (c .before .needed .ensures .exact (c .if2 .taken) ∙ ap length (named (args .self) (args .rdh) _ expected unsound)) (c .if2 .taken)
+    (c .before .needed .ensures .exact (c .if2 .taken) ∙ ap length (named (args .self) (args .rdh) _ held-to unsound)) (c .if2 .taken)
 
 put-text-requires : tie.Need-put-text-requires
 put-text-requires c κs = search needs
@@ -46,10 +46,10 @@ returns-3 c =
     let room = c .before .before .before .before in
     let test = room .before .before in
     let args = test .before .before .before .before .before .args in
-    let expected = test .before .before .before .expected-id .ensures in
-    let unsound = judged (args .self) (args .rdh) _ expected (test .before .fails .ensures) (test .if1 .left) in
-    let text = named (args .self) (args .rdh) _ expected unsound in
-    checks-unsound (args .self) (args .rdh) _ _ (test .before .before .settled-id .ensures) unsound
+    let held-to = test .before .before .before .criteria .ensures in
+    let unsound = judged (args .self) (args .rdh) _ held-to (test .before .fails .ensures) (test .if1 .left) in
+    let text = named (args .self) (args .rdh) _ held-to unsound in
+    checks-unsound (args .self) (args .rdh) _ _ (test .before .before .settled-by .ensures) unsound
     (omega (arith, room .before .needed .ensures .fits (room .if2 .left), ap length text))
     (respelled text (c .before .before .put-text .ensures))
 
@@ -57,8 +57,8 @@ pub sanity-check-spec : {M : Type 1} → statement M
 sanity-check-spec =
     tie.close
     (tie.spec
-    expected-id-requires
-    settled-id-requires
+    criteria-requires
+    settled-by-requires
     fails-requires
     returns
     needed-requires
