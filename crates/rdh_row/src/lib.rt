@@ -6,24 +6,31 @@ ghost use mathlib.Core.Path.{_≡_};
 ghost use Rattle.rdh_row.specs.Columns.{columnsOf, columnsText};
 ghost use Rattle.rdh_row.specs.Row.{rowText};
 ghost use Rattle.text.specs.Put.{Put};
-ghost use Rattle.text.specs.Written.{Writes};
+ghost use Rattle.text.specs.Written.{Needed, Writes};
 
 // The length of the longest row: a buffer of this length is never too short.
 const LONGEST_ROW: usize = 114;
 
-// Writes the row of `h` at the start of `out`. Where the buffer may be too short, the row is measured first.
+// Writes the row of `h` at the start of `out`.
 pub fn row(h: RdhCru, out: &mut [u8]) -> Written
     ensures { λ r. ⌜ Writes (rowText h) (now (out .entry)) r (now (out .exit)) ⌝ }
 {
-    if LONGEST_ROW <= out.len() {
-        return Written::Text(put_row(out, 0, h));
-    }
-    let mut none = [0u8; 0];
-    let need = put_row(&mut none, 0, h);
+    let need = needed(h, out.len());
     if out.len() < need {
         return Written::TooShort(need);
     }
     Written::Text(put_row(out, 0, h))
+}
+
+// The length that the row needs, or 0 where any row fits the room.
+fn needed(h: RdhCru, room: usize) -> usize
+    ensures { λ r. ⌜ Needed (rowText h) room r ⌝ }
+{
+    if LONGEST_ROW <= room {
+        return 0;
+    }
+    let mut none = [0u8; 0];
+    put_row(&mut none, 0, h)
 }
 
 // Puts the row of `h` at a place, for whoever puts more in front of it or behind it.

@@ -4,15 +4,11 @@ use mathlib.Core.Bool.{Bool, true, false}
 use mathlib.Core.Path.{_≡_, refl, ap, sym, subst, _∙_}
 use mathlib.Core.List.{List, [], _∷_, _++_}
 use native.Mathlib.Omega.{arith}
-use borrow.Author.Tests.{leb-true, leb-false, le-leb, lt-leb}
+use borrow.Author.Tests.{leb-true, leb-false}
 use lib.Dec.{leb}
 use lib.ListN.{length, set, length-append, length-set, replicate, length-replicate, replicate-append-replicate}
-use lib.Seq.{sets, length-sets, sets-eq, set-out}
-use Rattle.basis.specs.Pick.{on, off}
-use Rattle.text.specs.declared.Written.{Written}
-use Rattle.text.specs.declared.Written.the-variants.{Text, TooShort}
+use lib.Seq.{sets, length-sets, set-out}
 use Rattle.text.specs.Put.{Put, lastPlace}
-use Rattle.text.specs.Written.{Writes, written, overwritten}
 
 -- storing two texts in a row is storing the one, then the other behind it
 pub sets-append : (t u l : List ℕ) (i : ℕ) → sets l i (t ++ u) ≡ sets (sets l i t) (i + length t) u

@@ -1,5 +1,5 @@
 -- What a function answers that writes a whole text into a lent buffer, and what it leaves there (X1, R7).
-use Prim.Native.Nat.{ℕ}
+use Prim.Native.Nat.{ℕ, _≤_, _<_}
 use mathlib.Core.Path.{_≡_}
 use mathlib.Core.List.{List, [], _∷_, _++_}
 use lib.Dec.{leb}
@@ -28,3 +28,8 @@ overwritten t l = pick (leb (length t) (length l)) (t ++ drop (length t) l) l
 pub record Writes (t l : List ℕ) (r : Written) (m : List ℕ) : Type 0 where
   pub reply : answer r ≡ written t l
   pub leaves : m ≡ overwritten t l
+
+-- A length that tells whether the text fits a room: its own where it does not fit.
+pub record Needed (t : List ℕ) (room need : ℕ) : Type 0 where
+  pub fits : need ≤ room → length t ≤ room
+  pub exact : room < need → need ≡ length t

@@ -1,16 +1,16 @@
 -- Laws of numerals: the step that a writer takes from a number to its quotient, and their lengths.
 use Prim.Native.Nat.{ℕ, zero, suc, _+_, _-_, _*_, _/_, _%_, _^_, _≤_, _<_, max}
 use mathlib.Core.Bool.{Bool, true, false}
-use mathlib.Core.Path.{_≡_, refl, ap, sym, _∙_, subst}
+use mathlib.Core.Path.{_≡_, ap, sym, _∙_, subst}
 use mathlib.Core.List.{List, [], _∷_, _++_}
 use native.Mathlib.Nat.{pow-zero, pow-suc, div-lt-iff-lt-mul}
 use native.Mathlib.Omega.{arith}
-use borrow.Author.Tests.{ltb-true, ltb-false, le-ltb, lt-ltb}
+use borrow.Author.Tests.{le-ltb, lt-ltb}
 use lib.Dec.{ltb}
 use lib.ListN.{length, length-append, length-replicate, replicate}
 use Rattle.basis.specs.Pick.{pick, on, off}
 use Rattle.text.specs.Ascii.{ascii}
-use Rattle.text_numbers.specs.Numerals.{numeral, glyph, decimal, hex, left}
+use Rattle.text_numbers.specs.Numerals.{numeral, glyph, decimal, hex, left, right}
 
 -- the quotient of a number of one digit more
 quotient-below : (base k n : ℕ) → 0 < base → n < base ^ suc k → n / base < base ^ k
@@ -74,16 +74,22 @@ pub length-left : (width : ℕ) (t : List ℕ) → length (left width t) ≡ max
 unfolding left
 length-left width t = omega (arith, length-append t (replicate (width - length t) 32), length-replicate {A = ℕ} (width - length t) 32)
 
--- a column that is wide enough for its number has just its width
-pub decimal-column : (width k n : ℕ) → n < 10 ^ suc k → suc k ≤ width → length (left width (decimal n)) ≡ width
+pub length-right : (width : ℕ) (t : List ℕ) → length (right width t) ≡ max width (length t)
+unfolding right
+length-right width t = omega (arith, length-append (replicate (width - length t) 32) t, length-replicate {A = ℕ} (width - length t) 32)
+
+pub length-decimal : (k n : ℕ) → n < 10 ^ suc k → length (decimal n) ≤ suc k
 unfolding decimal
-decimal-column width k n small wide =
-    omega (arith, length-left width (numeral 10 20 n), length-numeral 10 20 k n (omega arith) small)
+length-decimal k n small = length-numeral 10 20 k n (omega arith) small
 
 pub length-hex : (k n : ℕ) → n < 16 ^ suc k → length (hex n) ≤ 3 + k
 unfolding hex
 length-hex k n small =
     omega (arith, length-append (ascii "0x") (numeral 16 16 n), length-numeral 16 16 k n (omega arith) small)
+
+-- a column that is wide enough for its number has just its width
+pub decimal-column : (width k n : ℕ) → n < 10 ^ suc k → suc k ≤ width → length (left width (decimal n)) ≡ width
+decimal-column width k n small wide = omega (arith, length-left width (decimal n), length-decimal k n small)
 
 pub hex-column : (width k n : ℕ) → n < 16 ^ suc k → 3 + k ≤ width → length (left width (hex n)) ≡ width
 hex-column width k n small wide = omega (arith, length-left width (hex n), length-hex k n small)

@@ -8,6 +8,7 @@ ghost use lib.Dec.{eqb};
 ghost use Rattle.basis.specs.Pick.{pick};
 ghost use Rattle.text.specs.Ascii.{ascii};
 ghost use Rattle.text.specs.Put.{Put};
+ghost use Rattle.text.specs.Written.{Needed};
 ghost use Rattle.trigger_stats.specs.Counters.{counterAt, counters};
 ghost use Rattle.trigger_texts.specs.CounterOrder.{inOrder};
 ghost use Rattle.trigger_texts.specs.Mismatches.{Compares, mismatchIfAny, mismatchOf, name};
@@ -68,15 +69,22 @@ const NAME_LENGTHS: [usize; COUNTERS] = [
 pub fn validate_other(stats: TriggerStats, other: TriggerStats, out: &mut [u8]) -> Written
     ensures { λ r. ⌜ Compares stats other (now (out .entry)) r (now (out .exit)) ⌝ }
 {
-    if LONGEST_COMPARISON <= out.len() {
-        return Written::Text(put_mismatches(stats, other, out, 0));
-    }
-    let mut none = [0u8; 0];
-    let need = put_mismatches(stats, other, &mut none, 0);
+    let need = needed(stats, other, out.len());
     if out.len() < need {
         return Written::TooShort(need);
     }
     Written::Text(put_mismatches(stats, other, out, 0))
+}
+
+// The length that the comparison needs, or 0 where any comparison fits the room.
+fn needed(stats: TriggerStats, other: TriggerStats, room: usize) -> usize
+    ensures { λ r. ⌜ Needed (inOrder (mismatchIfAny stats other) counters) room r ⌝ }
+{
+    if LONGEST_COMPARISON <= room {
+        return 0;
+    }
+    let mut none = [0u8; 0];
+    put_mismatches(stats, other, &mut none, 0)
 }
 
 // The lines of a comparison, in the order of the fields, as the Rust has them.

@@ -5,7 +5,7 @@ use trigger_stats::TriggerStats;
 ghost use Prim.Native.Nat.{_<_};
 ghost use Rattle.text.specs.Ascii.{ascii};
 ghost use Rattle.text.specs.Put.{Put};
-ghost use Rattle.text.specs.Written.{Writes};
+ghost use Rattle.text.specs.Written.{Needed, Writes};
 ghost use Rattle.trigger_stats.specs.Counters.{counterAt};
 ghost use Rattle.trigger_texts.specs.TriggerList.{label, lineOf, listText};
 
@@ -38,19 +38,26 @@ const LABELS: [u8; 240] = *b"\
     \x20 TPC_rst:  \
     \x20 TOF:      ";
 
-// Writes the list of all counts at the start of `out`. Where the buffer may be too short, the list is measured first.
+// Writes the list of all counts at the start of `out`.
 pub fn display(stats: TriggerStats, out: &mut [u8]) -> Written
     ensures { λ r. ⌜ Writes (listText stats) (now (out .entry)) r (now (out .exit)) ⌝ }
 {
-    if LONGEST_LIST <= out.len() {
-        return Written::Text(put_list(stats, out, 0));
-    }
-    let mut none = [0u8; 0];
-    let length = put_list(stats, &mut none, 0);
-    if out.len() < length {
-        return Written::TooShort(length);
+    let need = needed(stats, out.len());
+    if out.len() < need {
+        return Written::TooShort(need);
     }
     Written::Text(put_list(stats, out, 0))
+}
+
+// The length that the list needs, or 0 where any list fits the room.
+fn needed(stats: TriggerStats, room: usize) -> usize
+    ensures { λ r. ⌜ Needed (listText stats) room r ⌝ }
+{
+    if LONGEST_LIST <= room {
+        return 0;
+    }
+    let mut none = [0u8; 0];
+    put_list(stats, &mut none, 0)
 }
 
 // The title and a line for each counter.

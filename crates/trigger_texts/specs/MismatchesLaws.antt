@@ -20,7 +20,7 @@ use Rattle.trigger_stats.specs.Counters.{orbit, hb, hbr, hc, pht, pp, cal, sot,
 use Rattle.trigger_stats.specs.Counters.{lhc-gap1, lhc-gap2, tpc-sync, tpc-rst, tof}
 use Rattle.trigger_texts.specs.CounterOrder.{inOrder}
 use Rattle.trigger_texts.specs.CounterOrderLaws.{total, total-add, total-below, total-same, length-in-order}
-use Rattle.trigger_texts.specs.TriggerListLaws.{length-decimal}
+use Rattle.text_numbers.specs.NumeralLaws.{length-decimal}
 use Rattle.trigger_texts.specs.Mismatches.{Compares, DifferingOnce, mismatch, mismatchIfAny, mismatchOf, mismatchText, name, occurrences}
 
 -- ---- counters are told apart by their bits
@@ -143,8 +143,8 @@ module _ (self other : TriggerStats) where
   length-mismatch : InRange self → InRange other → (k : Counter) → length (mismatch self other k) ≤ length (ascii (name k)) + 49
   unfolding mismatch mismatchOf
   length-mismatch fits fits-other k =
-      let got = length-decimal (count k self) (fits k) in
-      let expected = length-decimal (count k other) (fits-other k) in
+      let got = length-decimal 9 (count k self) (omega (arith, fits k)) in
+      let expected = length-decimal 9 (count k other) (omega (arith, fits-other k)) in
       simp length-append (omega arith)
 
   -- the longest comparison: 20 names of 78 bytes together, each with 49 bytes behind it
@@ -230,5 +230,15 @@ module _ (self other : TriggerStats) where
   listed-differing k = occurrences-differing k counters ∙ ap (λ (x : ℕ). unless (equal self other k) x) (in-table k .1)
 
   -- so whoever writes the lines in the order of the table compares
-  pub compares : {l m : List ℕ} {r : Written} → Writes (mismatchText self other (differing counters)) l r m → Compares self other l r m
-  compares w = record { order = differing counters; listed = listed-differing; writes = w }
+  pub compares : {l m : List ℕ} {r : Written} → Writes (inOrder (mismatchIfAny self other) counters) l r m → Compares self other l r m
+  compares {l} {m} {r} w =
+      record {
+        order = differing counters;
+        listed = listed-differing;
+        writes = subst (λ (t : List ℕ). Writes t l r m) (lines-differing counters) w;
+      }
+
+  -- and what it writes is no longer than the longest comparison
+  pub longest-lines : InRange self → InRange other → length (inOrder (mismatchIfAny self other) counters) ≤ 1058
+  longest-lines fits fits-other =
+      omega (arith, ap length (lines-differing counters), longest-comparison self other fits fits-other (differing counters) listed-differing)

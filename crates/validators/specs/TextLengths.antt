@@ -9,11 +9,11 @@ use lib.ListN.{length, length-append}
 use Rattle.basis.specs.Pick.{pick}
 use Rattle.rdh.specs.declared.rdh_cru.RdhCru.{RdhCru}
 use Rattle.serde_rdh.specs.Layout.{InRange, span, value}
-use Rattle.serde_rdh.specs.Layout.Field.{header-id, header-size, priority-bit, system-id, rdh0-reserved0, bc-reserved0, trigger-type, stop-bit, rdh2-reserved0, detector-field, rdh3-reserved0, cruid-dw}
+use Rattle.serde_rdh.specs.Layout.Field.{header-id, header-size, priority-bit, system-id, rdh0-reserved0, trigger-type, stop-bit, rdh2-reserved0, detector-field, rdh3-reserved0}
 use Rattle.rdh.specs.Subfields.{bcOf, bcReservedOf, dataFormatOf, dwOf, layerOf, staveOf}
 use Rattle.text.specs.Ascii.{ascii}
-use Rattle.text_numbers.specs.Numerals.{decimal, hex, numeral}
-use Rattle.text_numbers.specs.NumeralLaws.{length-hex, length-numeral}
+use Rattle.text_numbers.specs.Numerals.{decimal, hex}
+use Rattle.text_numbers.specs.NumeralLaws.{length-decimal, length-hex}
 use Rattle.sanity.specs.declared.Criteria.{Criteria}
 use Rattle.sanity.specs.Tests.{Test, anyFails, feeIdTest, headerIdTest, hexPiece, decimalPiece, pieces, section, feeIdTests, rdh0Tests, rdh1Tests, rdh2Tests, rdh3Tests, cruTests, failureText}
 
@@ -38,10 +38,6 @@ under heading ts bound =
 hex-piece : (label : String) (k n : ℕ) → n < 16 ^ suc k → length (hexPiece label n) ≤ length (ascii label) + 4 + k
 hex-piece label k n small =
     omega (arith, length-append (ascii label ++ hex n) (ascii " "), length-append (ascii label) (hex n), length-hex k n small)
-
-length-decimal : (k n : ℕ) → n < 10 ^ suc k → length (decimal n) ≤ suc k
-unfolding decimal
-length-decimal k n small = length-numeral 10 20 k n (omega arith) small
 
 decimal-piece : (label : String) (k n : ℕ) → n < 10 ^ suc k → length (decimalPiece label n) ≤ length (ascii label) + 2 + k
 decimal-piece label k n small =

@@ -1,5 +1,5 @@
 -- A validator, and what a check on it answers and leaves (V, R7).
-use Prim.Native.Nat.{ℕ, _≤_, _<_}
+use Prim.Native.Nat.{ℕ}
 use mathlib.Core.Path.{_≡_}
 use mathlib.Core.Bool.{Bool, true, false}
 use mathlib.Core.List.{List, [], _∷_}
@@ -78,8 +78,3 @@ pub record Checks (v : RdhCruSanityValidator) (h : RdhCru) (l : List ℕ) (r : S
   pub verdict : verdictAnswer (r .verdict) ≡ answered v h (length l)
   pub validator : r .validator ≡ validatorAfter v h (length l)
   pub leaves : m ≡ overwritten (textOf v h) l
-
--- A length that tells whether the text fits a room: the text's own where it does not fit.
-pub record Needed (t : List ℕ) (room need : ℕ) : Type 0 where
-  pub fits : need ≤ room → length t ≤ room
-  pub exact : room < need → need ≡ length t

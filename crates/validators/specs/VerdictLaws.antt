@@ -2,10 +2,9 @@
 use Prim.Native.Nat.{ℕ, _≤_, _<_}
 use mathlib.Core.Bool.{Bool, true, false, not}
 use mathlib.Core.Path.{_≡_, refl, ap, sym, _∙_}
-use mathlib.Core.List.{List, [], _∷_, _++_}
+use mathlib.Core.List.{List, [], _∷_}
 use native.Mathlib.Omega.{arith}
 use borrow.Author.Tests.{le-leb, lt-leb}
-use lib.Dec.{leb}
 use lib.IntN.{pos}
 use lib.ListN.{length, length-append}
 use mathlib.Core.Logic.{_↔_}
@@ -21,7 +20,7 @@ use Rattle.validators.specs.declared.Verdict.the-variants.{Sound, NotSou
 use Rattle.sanity.specs.declared.Criteria.{Criteria}
 use Rattle.sanity.specs.Tests.{allTests, anyFails, failureText, sound, verdictText}
 use Rattle.validators.specs.TextLengths.{longest-text}
-use Rattle.validators.specs.Verdict.{Checks, Judged, answered, criteriaOf, settledBy, soundTo, textOf, validatorAfter}
+use Rattle.validators.specs.Verdict.{Checks, answered, criteriaOf, settledBy, soundTo, textOf, validatorAfter}
 
 -- the text of a sound header is empty, and of another the one that names its failures
 pub sound-text : (criteria : Criteria) (h : RdhCru) → sound criteria h ≡ true → verdictText criteria h ≡ []

@@ -1,8 +1,7 @@
 -- A list of verdicts on one validator, refused ones among them: what is replied, and what the validator then holds (D3.7).
 use Prim.Native.Nat.{ℕ}
 use mathlib.Core.Bool.{Bool}
-use mathlib.Core.Path.{_≡_, refl, ap, sym, _∙_}
-use mathlib.Core.List.{List, [], _∷_, _++_}
+use mathlib.Core.List.{List, [], _∷_}
 use lib.Dec.{leb}
 use lib.ListN.{length}
 use Rattle.basis.specs.Pick.{pick}
@@ -11,7 +10,7 @@ use Rattle.rdh.specs.declared.rdh_cru.RdhCru.{RdhCru}
 use Rattle.validators.specs.declared.HeaderId.{HeaderId}
 use Rattle.validators.specs.declared.HeaderId.the-variants.{Configured, NotSettled, Settled}
 use Rattle.validators.specs.declared.RdhCruSanityValidator.{RdhCruSanityValidator}
-use Rattle.validators.specs.Verdict.{Judged, answered, holding, settledBy, textOf, validatorAfter}
+use Rattle.validators.specs.Verdict.{Judged, answered, holding, textOf, validatorAfter}
 
 -- A header put, and the length of the text buffer lent.
 pub record Call : Type 0 where

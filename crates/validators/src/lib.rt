@@ -1,7 +1,8 @@
 // The verdict: whether a header is sound, in the Rust's words.
 ghost use mathlib.Core.Path.{_≡_};
 ghost use Rattle.sanity.specs.Tests.{failureText};
-ghost use Rattle.validators.specs.Verdict.{Checks, Needed, criteriaOf, expectedId, settledBy, settledId};
+ghost use Rattle.text.specs.Written.{Needed};
+ghost use Rattle.validators.specs.Verdict.{Checks, criteriaOf, expectedId, settledBy, settledId};
 use rdh::rdh_cru::RdhCru;
 use sanity::Criteria;
 

@@ -1,33 +1,25 @@
 -- Any text fits where the longest does; else the text is measured.
-use native.Mathlib.Nat.{le-trans}
+use Prim.Native.Nat.{_≤_}
+use mathlib.Core.Path.{refl}
 use native.Mathlib.Omega.{arith}
-use Rattle.text.specs.PutLaws.{measured}
-use Rattle.validators.specs.TextLengths.{longest-text}
+use lib.ListN.{length}
+use Rattle.text.specs.WrittenLaws.{by-measure, holds-longest}
 use Rattle.serde_rdh.proofs.Ranges.{in-range}
-use borrow.Author.Needs.{needs}
+use Rattle.sanity.specs.Tests.{failureText}
+use Rattle.validators.specs.TextLengths.{longest-text}
 use Rattle.validators.proofs.needed.Statement.{statement}
 use Rattle.validators.proofs.needed.Tie as tie
 
+longest : (c : tie.Start) → length (failureText (c .args .criteria) (c .args .rdh)) ≤ 406
+longest c = longest-text (c .args .rdh) (in-range _ _ (c .good .1 .0)) (c .args .criteria) (omega arith)
+
 returns : tie.Need-returns
-returns c =
-    let start = c .before in
-    let held = in-range (start .args .rdh) _ (start .good .1 .0) in
-    let longest = longest-text (start .args .rdh) held (start .args .criteria) (omega arith) in
-    record { fits = λ room. le-trans longest (c .if1 .taken); exact = λ short. omega arith }
-
-slice-aggregate-put-text : tie.Need-slice-aggregate-put-text
-slice-aggregate-put-text c = search needs
-
-put-text-requires : tie.Need-put-text-requires
-put-text-requires c κs = search needs
+returns c = holds-longest (longest (c .before)) (c .if1 .taken)
 
 returns-2 : tie.Need-returns-2
 returns-2 c =
     let start = c .before .before .before .before in
-    let held = in-range (start .args .rdh) _ (start .good .1 .0) in
-    let longest = longest-text (start .args .rdh) held (start .args .criteria) (omega arith) in
-    let is = measured (c .before .put-text .ensures) (omega arith) in
-    record { fits = λ room. omega arith; exact = λ short. is }
+    by-measure (start .args .room) (c .before .put-text .ensures) (omega (arith, longest start))
 
 pub needed-spec : {M : Type 1} → statement M
-needed-spec = tie.close (tie.spec returns slice-aggregate-put-text put-text-requires returns-2)
+needed-spec = tie.close (tie.spec returns (λ c. refl) (λ c κs. tt) returns-2)

@@ -1,5 +1,5 @@
 -- A sound header, a text that does not fit and one that does are the three cases of what a check answers and leaves.
-use mathlib.Core.Path.{ap, sym, subst, _∙_}
+use mathlib.Core.Path.{ap, _∙_}
 use native.Mathlib.Omega.{arith}
 use lib.ListN.{length}
 use Rattle.text.specs.PutLaws.{respelled}
