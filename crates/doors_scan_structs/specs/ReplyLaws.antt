@@ -29,15 +29,6 @@ use Rattle.doors_scan_structs.specs.Replies.{systemOr0, triggerOr0}
 use Rattle.doors_scan_structs.specs.declared.reply.PlainAnswer.{PlainAnswer}
 use Rattle.doors_scan_structs.specs.declared.reply.PlainMarks.{PlainMarks}
 
--- A refusal writes no header.
-pub refusal-leaves : (why : Refusal) (bytes : List ℕ) → headerLeft (refusal why) bytes ≡ bytes
-refusal-leaves End bytes = refl
-refusal-leaves (OffsetToNext distance position) bytes = refl
-refusal-leaves MemorySize bytes = refl
-refusal-leaves FeeIdsFull bytes = refl
-refusal-leaves NegativeSkip bytes = refl
-refusal-leaves Unusable bytes = refl
-
 -- ---- the answer
 
 -- The values of a refusal: distance and position with 2, none with another.
@@ -84,7 +75,7 @@ answer-again Passed bytes fits long = refl
 answer-again (Answered (Loads.Packet packet)) bytes fits long =
     ap (λ (h : RdhCru). gives (handed (record { header = h; payload = packet .payload; position = packet .position }))) (header-again (packet .rdh) bytes fits long)
 answer-again (Answered (Loads.Want place size)) bytes fits long = refl
-answer-again (Answered (Loads.Refused why)) bytes fits long = refusal-again why _
+answer-again (Answered (Loads.Refused why)) bytes fits long = refusal-again why bytes
 
 -- ---- the marks
 

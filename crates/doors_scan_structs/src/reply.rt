@@ -116,13 +116,10 @@ pub fn plain_answer(answer: LoadCdp) -> PlainAnswer
 fn refusal_answer(why: Refusal) -> PlainAnswer
     ensures { λ r. ⌜ r ≡ refusalAnswer why ⌝ }
 {
+    let number = why.number() as u32;
     match why {
-        Refusal::End => refused(1, 0, 0),
-        Refusal::OffsetToNext(distance, position) => refused(2, distance, position.0),
-        Refusal::MemorySize => refused(3, 0, 0),
-        Refusal::FeeIdsFull => refused(4, 0, 0),
-        Refusal::NegativeSkip => refused(5, 0, 0),
-        Refusal::Unusable => refused(6, 0, 0),
+        Refusal::OffsetToNext(distance, position) => refused(number, distance, position.0),
+        _ => refused(number, 0, 0),
     }
 }
 

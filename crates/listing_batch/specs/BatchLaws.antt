@@ -15,11 +15,9 @@ use Rattle.rdh.specs.declared.rdh_cru.RdhCru.{RdhCru}
 use Rattle.text.specs.Put.{Put}
 use Rattle.text.specs.PutLaws.{respelled, sets-append}
 use Rattle.validators.specs.declared.RdhCruSanityValidator.{RdhCruSanityValidator}
-use Rattle.scan_cdp.specs.Answers.{Found, handed, passed, refusal, wants}
+use Rattle.scan_cdp.specs.Answers.{Found, handed, passed, wants}
 use Rattle.scan_cdp.specs.Loads.{Loaded, loaded}
 use Rattle.scan_cdp.specs.declared.Part.{Part}
-use Rattle.scan_cdp.specs.declared.Refusal.{Refusal}
-use Rattle.scan_cdp.specs.declared.Refusal.the-variants.{End, FeeIdsFull, MemorySize, NegativeSkip, OffsetToNext, Unusable}
 use Rattle.scan_cdp.specs.declared.Settings.{Settings}
 use Rattle.scan_cdp.specs.declared.State.{State}
 use Rattle.input_scanner.specs.Replies.{loadOf}
@@ -42,15 +40,6 @@ packet-there v (gives passed) l e = absurd (false≢true e)
 packet-there v (gives (handed p)) l e = line-there v (p .position .0) (p .header)
 packet-there v (gives (wants place size)) l e = absurd (false≢true e)
 packet-there v (refuses number values) l e = absurd (false≢true e)
-
--- a refusal is no packet
-pub refusal-stops : (why : Refusal) → isPacket (refusal why) ≡ false
-refusal-stops End = refl
-refusal-stops (OffsetToNext distance position) = refl
-refusal-stops MemorySize = refl
-refusal-stops FeeIdsFull = refl
-refusal-stops NegativeSkip = refl
-refusal-stops Unusable = refl
 
 -- what the code adds for a packet that is not sound
 pub as-number : (unsound : Bool) → boolByte unsound ≡ pick unsound 1 0

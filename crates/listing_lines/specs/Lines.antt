@@ -4,13 +4,9 @@ use Prim.Native.String.{String}
 use mathlib.Core.List.{List, [], _∷_, _++_, map}
 use lib.Dec.{ltb}
 use Rattle.basis.specs.Pick.{pick}
-use Rattle.basis.specs.Refusals.{Answer, gives, refuses}
 use Rattle.text.specs.Ascii.{ascii}
 use Rattle.text_numbers.specs.Numerals.{decimal, numeral}
-use Rattle.scan_cdp.specs.Answers.{Found, refusal}
 use Rattle.scan_cdp.specs.declared.Counts.{Counts}
-use Rattle.scan_cdp.specs.declared.Part.{Part}
-use Rattle.scan_cdp.specs.declared.Refusal.{Refusal}
 
 -- The end of a line.
 abbrev pub newline : List ℕ
@@ -31,14 +27,6 @@ lineAt position t = positionText position ++ ascii ": " ++ t ++ newline
 -- A name and its number in decimal.
 unfoldable pub countLine : List ℕ → ℕ → List ℕ
 countLine name n = name ++ ascii " " ++ decimal n ++ newline
-
--- The number of a refusal.
-abbrev pub numberIn : {A : Type 0} → Answer A → ℕ
-numberIn (gives x) = 0
-numberIn (refuses number values) = number
-
-abbrev pub numberOf : Refusal → ℕ
-numberOf why = numberIn {A = Found Part} (refusal why)
 
 -- The last lines, with the counts and the number of the refusal (P5).
 unfoldable pub lastLines : Counts → ℕ → List ℕ

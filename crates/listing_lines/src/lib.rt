@@ -1,7 +1,7 @@
 // The lines of the listing: a line with a position, and the last lines.
-ghost use mathlib.Core.Path.{_≡_};
 ghost use Rattle.text.specs.Put.{Put};
-ghost use Rattle.listing_lines.specs.Lines.{countLine, lastLines, lineAt, numberOf};
+ghost use Rattle.scan_cdp.specs.Answers.{numberOf};
+ghost use Rattle.listing_lines.specs.Lines.{countLine, lastLines, lineAt};
 use scan_cdp::Counts;
 use scan_cdp::Position;
 use scan_cdp::Refusal;
@@ -28,7 +28,7 @@ pub fn put_last(out: &mut [u8], at: usize, counts: Counts, why: Refusal) -> usiz
     let at = put_count(out, at, b"seen", counts.seen as u64);
     let at = put_count(out, at, b"filtered", counts.filtered as u64);
     let at = put_count(out, at, b"payload", counts.payload as u64);
-    put_count(out, at, b"end", number_of(why))
+    put_count(out, at, b"end", why.number() as u64)
 }
 
 fn put_count(out: &mut [u8], at: usize, name: &[u8], n: u64) -> usize
@@ -38,17 +38,4 @@ fn put_count(out: &mut [u8], at: usize, name: &[u8], n: u64) -> usize
     let at = text::put_byte(out, at, b' ');
     let at = text_numbers::put_decimal(out, at, n);
     text::put_byte(out, at, b'\n')
-}
-
-fn number_of(why: Refusal) -> u64
-    ensures { λ r. ⌜ r ≡ numberOf why ⌝ }
-{
-    match why {
-        Refusal::End => 1,
-        Refusal::OffsetToNext(_, _) => 2,
-        Refusal::MemorySize => 3,
-        Refusal::FeeIdsFull => 4,
-        Refusal::NegativeSkip => 5,
-        Refusal::Unusable => 6,
-    }
 }

@@ -1,7 +1,6 @@
 -- Laws of what a load adds to the listing.
 use Prim.Native.Nat.{ℕ, _≤_}
-use mathlib.Core.Bool.{false}
-use mathlib.Core.Path.{_≡_, refl, ap, sym, _∙_}
+use mathlib.Core.Path.{_≡_, ap, sym, _∙_}
 use mathlib.Core.List.{List}
 use native.Mathlib.Omega.{arith}
 use lib.ListN.{length}
@@ -9,14 +8,12 @@ use Rattle.basis.specs.Refusals.{Answer}
 use Rattle.text.specs.Put.{Put}
 use Rattle.text.specs.PutLaws.{respelled}
 use Rattle.validators.specs.declared.RdhCruSanityValidator.{RdhCruSanityValidator}
-use Rattle.scan_cdp.specs.Answers.{Found, loadAnswer, refusal}
+use Rattle.scan_cdp.specs.Answers.{Found, loadAnswer}
 use Rattle.scan_cdp.specs.Loads.{Loaded}
 use Rattle.scan_cdp.specs.declared.LoadCdp.{LoadCdp}
 use Rattle.scan_cdp.specs.declared.Part.{Part}
-use Rattle.scan_cdp.specs.declared.Refusal.{Refusal}
-use Rattle.scan_cdp.specs.declared.Refusal.the-variants.{End, OffsetToNext, MemorySize, FeeIdsFull, NegativeSkip, Unusable}
 use Rattle.input_scanner.specs.Replies.{loadOf}
-use Rattle.listing_lines.specs.Lines.{lastLines, numberOf, room}
+use Rattle.listing_lines.specs.Lines.{room}
 use Rattle.listing_load.specs.LoadLines.{Lists, linesOf, unsoundIn, validatorOf}
 use Rattle.listing_load.specs.declared.Listed.{Listed}
 
@@ -38,29 +35,3 @@ lists l v out at r feeIds left a load is validator unsound lines short =
       lines = respelled same lines;
       short = omega (arith, ap length same, short);
     }
-
--- every refusal has the last lines, leaves the validator, and is no packet that is not sound
-pub lines-refused : (v : RdhCruSanityValidator) (why : Refusal) (l : Loaded Part)
-    → lastLines (l .state .progress .counts) (numberOf why) ≡ linesOf v (refusal why) l
-lines-refused v End l = refl
-lines-refused v (OffsetToNext distance position) l = refl
-lines-refused v MemorySize l = refl
-lines-refused v FeeIdsFull l = refl
-lines-refused v NegativeSkip l = refl
-lines-refused v Unusable l = refl
-
-pub validator-refused : (v : RdhCruSanityValidator) (why : Refusal) → v ≡ validatorOf v (refusal why)
-validator-refused v End = refl
-validator-refused v (OffsetToNext distance position) = refl
-validator-refused v MemorySize = refl
-validator-refused v FeeIdsFull = refl
-validator-refused v NegativeSkip = refl
-validator-refused v Unusable = refl
-
-pub unsound-refused : (v : RdhCruSanityValidator) (why : Refusal) → false ≡ unsoundIn v (refusal why)
-unsound-refused v End = refl
-unsound-refused v (OffsetToNext distance position) = refl
-unsound-refused v MemorySize = refl
-unsound-refused v FeeIdsFull = refl
-unsound-refused v NegativeSkip = refl
-unsound-refused v Unusable = refl

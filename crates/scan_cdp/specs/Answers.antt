@@ -39,14 +39,26 @@ answerAs f (gives (handed p)) = gives (handed (handedAs f p))
 answerAs f (gives (wants place size)) = gives (wants place size)
 answerAs f (refuses number values) = refuses number values
 
--- The number and the values of each refusal.
+-- The number of each refusal ..
+abbrev pub numberOf : Refusal → ℕ
+numberOf End = 1
+numberOf (OffsetToNext distance position) = 2
+numberOf MemorySize = 3
+numberOf FeeIdsFull = 4
+numberOf NegativeSkip = 5
+numberOf Unusable = 6
+
+-- .. and the values returned with it.
+abbrev pub valuesOf : Refusal → List ℤ
+valuesOf End = []
+valuesOf (OffsetToNext distance position) = distance ∷ pos (position .0) ∷ []
+valuesOf MemorySize = []
+valuesOf FeeIdsFull = []
+valuesOf NegativeSkip = []
+valuesOf Unusable = []
+
 abbrev pub refusal : {A : Type 0} → Refusal → Answer A
-refusal End = refuses 1 []
-refusal (OffsetToNext distance position) = refuses 2 (distance ∷ pos (position .0) ∷ [])
-refusal MemorySize = refuses 3 []
-refusal FeeIdsFull = refuses 4 []
-refusal NegativeSkip = refuses 5 []
-refusal Unusable = refuses 6 []
+refusal why = refuses (numberOf why) (valuesOf why)
 
 -- The code's packet.
 abbrev pub handedBy : Packet → Handed Part

@@ -1,6 +1,7 @@
 // What a scan is asked for, keeps and answers: the layer below the reading of a window.
 
 ghost use mathlib.Core.Path.{_≡_};
+ghost use Rattle.scan_cdp.specs.Answers.{numberOf};
 ghost use Rattle.scan_cdp.specs.Steps.{newState};
 use filter::FilterOpt;
 use rdh::rdh_cru::RdhCru;
@@ -115,6 +116,22 @@ pub enum Refusal {
     FeeIdsFull,
     NegativeSkip,
     Unusable,
+}
+
+impl Refusal {
+    // Its number, by which it is told and printed.
+    pub fn number(self) -> u8
+        ensures { λ r. ⌜ r ≡ numberOf self ⌝ }
+    {
+        match self {
+            Refusal::End => 1,
+            Refusal::OffsetToNext(_, _) => 2,
+            Refusal::MemorySize => 3,
+            Refusal::FeeIdsFull => 4,
+            Refusal::NegativeSkip => 5,
+            Refusal::Unusable => 6,
+        }
+    }
 }
 
 // What a load answers: a packet; a want for so many bytes from a place on; or a refusal.

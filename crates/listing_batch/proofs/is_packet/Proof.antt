@@ -1,6 +1,5 @@
 -- Each arm is one case.
-use mathlib.Core.Path.{refl, sym}
-use Rattle.listing_batch.specs.BatchLaws.{refusal-stops}
+use mathlib.Core.Path.{refl}
 use borrow.Author.Needs.{needs}
 use Rattle.listing_batch.proofs.is_packet.Statement.{statement}
 use Rattle.listing_batch.proofs.is_packet.Tie as tie
@@ -21,9 +20,7 @@ returns-2 : tie.Need-returns-2
 returns-2 c = search needs
 
 returns-3 : tie.Need-returns-3
-returns-3 c =
-    let told = c .enum-told3 .given in
-    rw (told .1) (sym (refusal-stops (told .0 .0)))
+returns-3 c = rw (c .enum-told3 .given .1) refl
 
 pub is-packet-spec : {M : Type 1} → statement M
 is-packet-spec =

@@ -38,8 +38,11 @@ put-count-requires-3 c κs = search needs
 slice-aggregate-put-count-4 : tie.Need-slice-aggregate-put-count-4
 slice-aggregate-put-count-4 c = search needs
 
-number-of-requires : tie.Need-number-of-requires
-number-of-requires c κs = search needs
+number-requires : tie.Need-number-requires
+number-requires c κs = search needs
+
+cast-put-count-4 : tie.Need-cast-put-count-4
+cast-put-count-4 c = search needs
 
 put-count-requires-4 : tie.Need-put-count-requires-4
 put-count-requires-4 c κs = search needs
@@ -56,7 +59,7 @@ returns c =
     let seen = filtered .before .before .before .before .before .before in
     and-then
     (and-then (and-then (seen .put-count .ensures) (filtered .put-count2 .ensures)) (payload .put-count3 .ensures))
-    (respelled (ap (λ (n : ℕ). countLine (ascii "end") n) (numbered .number-of .ensures)) (c .before .before .put-count4 .ensures))
+    (respelled (ap (λ (n : ℕ). countLine (ascii "end") n) (numbered .number .ensures)) (c .before .before .put-count4 .ensures))
 
 pub put-last-spec : {M : Type 1} → statement M
 put-last-spec =
@@ -72,7 +75,8 @@ put-last-spec =
     cast-put-count-3
     put-count-requires-3
     slice-aggregate-put-count-4
-    number-of-requires
+    number-requires
+    cast-put-count-4
     put-count-requires-4
     same-length
     returns)

@@ -1,12 +1,9 @@
 -- The lines of each answer: a packet, a want and a refusal.
-use mathlib.Core.Path.{ap, refl}
+use mathlib.Core.Path.{refl}
 use native.Mathlib.Omega.{arith}
-use Rattle.text.specs.PutLaws.{put-nothing, respelled}
-use Rattle.input_scanner.specs.Replies.{loadOf}
-use lib.ListN.{length}
-use Rattle.listing_lines.specs.Lines.{numberOf}
+use Rattle.text.specs.PutLaws.{put-nothing}
 use Rattle.listing_lines.specs.LineLaws.{short-last}
-use Rattle.listing_load.specs.LoadLinesLaws.{lines-refused, lists, unsound-refused, validator-refused}
+use Rattle.listing_load.specs.LoadLinesLaws.{lists}
 use borrow.Author.Needs.{needs}
 use Rattle.listing_load.proofs.list_cdp.Statement.{statement}
 use Rattle.listing_load.proofs.list_cdp.Tie as tie
@@ -72,12 +69,8 @@ returns-3 c =
     let start = replied .before .before .before .before .before in
     let args = start .args in
     let load = replied .load-cdp in
-    let why = told .answer2 .given .0 .0 in
-    let lines = lines-refused (args .validator) why (loadOf (load .result) (load .last .1 .1 .0)) in
-    lists _ (args .validator) (args .out .now) (args .at) _ _ _ _ (load .ensures) (told .answer2 .given .1) (validator-refused (args .validator) why)
-    (unsound-refused (args .validator) why)
-    (respelled lines (c .before .before .put-last .ensures))
-    (omega (arith, ap length lines, short-last (load .result .state .progress .counts) (numberOf why)))
+    lists _ (args .validator) (args .out .now) (args .at) _ _ _ _ (load .ensures) (told .answer2 .given .1) refl refl
+    (c .before .before .put-last .ensures) (short-last _ _)
 
 pub list-cdp-spec : {M : Type 1} → statement M
 list-cdp-spec =

@@ -1,6 +1,5 @@
 -- Only a packet writes.
-use mathlib.Core.Path.{sym}
-use Rattle.doors_scan_structs.specs.ReplyLaws.{refusal-leaves}
+use mathlib.Core.Path.{refl}
 use borrow.Author.Needs.{needs}
 use Rattle.doors_scan.proofs.header.put_packet.Statement.{statement}
 use Rattle.doors_scan.proofs.header.put_packet.Tie as tie
@@ -24,7 +23,7 @@ returns-2 : tie.Need-returns-2
 returns-2 c = search needs
 
 returns-3 : tie.Need-returns-3
-returns-3 c = rw (c .enum-told2 .given .1) (sym (refusal-leaves (c .enum-told2 .given .0 .0) _))
+returns-3 c = rw (c .enum-told2 .given .1) refl
 
 pub put-packet-spec : {M : Type 1} → statement M
 put-packet-spec =

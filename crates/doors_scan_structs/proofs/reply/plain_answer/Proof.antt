@@ -23,7 +23,7 @@ returns-2 : tie.Need-returns-2
 returns-2 c = rw (c .before .answer2 .given .1) refl
 
 returns-3 : tie.Need-returns-3
-returns-3 c = search needs
+returns-3 c = rw (c .before .before .answer3 .given .1) (c .refusal-answer .ensures)
 
 pub plain-answer-spec : {M : Type 1} → statement M
 plain-answer-spec =
