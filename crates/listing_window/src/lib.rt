@@ -5,9 +5,7 @@ ghost use Prim.Native.Nat.{_-_, _≤_, _<_, min};
 ghost use lib.ListN.{length};
 ghost use Rattle.listing_window.specs.Held.{Fills, Passes, Shows, heldFrom, nothing, slid};
 use scan_cdp::BytePlace;
-
-// No seek goes further.
-const FARTHEST: u64 = 1_152_921_504_606_846_976;
+use scan_cdp::LIMIT;
 
 // What a buffer holds: so many bytes, from a byte place of the input on, and whether the input ends with them.
 pub struct Held {
@@ -121,9 +119,10 @@ fn pass(fd: i32, buffer: &mut [u8], held: Held, place: BytePlace) -> Refilled
     })
 }
 
-// Skips so many bytes of the input, if it is one that can be read from any place. A pipe is not, and answers that with a number below 0.
+// Skips so many bytes of the input, no more than byte places reach, if it is one that can be read from any place. A pipe is not, and answers
+// that with a number below 0.
 fn is_skipped(fd: i32, distance: u64) -> bool {
-    (distance <= FARTHEST) && libc::lseek(fd, distance as i64, libc::SEEK_CUR) >= 0
+    (distance <= LIMIT) && libc::lseek(fd, distance as i64, libc::SEEK_CUR) >= 0
 }
 
 // Reads behind what is held, until there are `size` bytes, the buffer is full or the input ends.

@@ -10,6 +10,9 @@ use stats::Count;
 // A byte place in the recording, which the reading goes by (W2, F3).
 pub struct BytePlace(pub u64);
 
+// 2^60: no place, position or window end is above it (R6).
+pub const LIMIT: u64 = 1_152_921_504_606_846_976;
+
 // A reported position, which is printed and never read at: offsets alone move it (W2, F3).
 pub struct Position(pub u64);
 
