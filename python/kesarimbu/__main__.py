@@ -1,7 +1,6 @@
 """The command line: `python3 -m kesarimbu list FILE`."""
 from __future__ import annotations
 
-import argparse
 import os
 import sys
 
@@ -11,9 +10,10 @@ from .refusals import END, Refused
 
 TYPE_CHECKING = False
 if TYPE_CHECKING:
-    from typing import Iterator
+    from argparse import Namespace
+    from typing import Iterator, NoReturn, Union
 
-PROGRAM = "python3 -m kesarimbu"
+    Options = Union["FileAlone", Namespace]
 
 # Exit statuses.
 SOUND = 0
@@ -22,95 +22,33 @@ MISUSE = 2
 INTERRUPTED = 130
 
 STANDARD_INPUT = 0
-HELP_WIDTH = 100
-
-DESCRIPTION = """\
-Reads recordings of ALICE readout crates, which are chains of packets, each led by a 64-byte raw
-data header (RDH). `COMMAND --help` says more of a command.
-"""
-
-LIST_DESCRIPTION = """\
-Lists a recording: a line for each packet, with its position in the recording and these fields of
-its header:
-
-  header ID, header size, FEE id, system id, offset to the next packet, link, packet counter,
-  bunch counter, orbit, data format, trigger type, pages counter, stop bit, detector field
-
-If a header is not sound, a further line says what is wrong with it. At the end come the number of
-headers seen, of headers that matched the filter (0 without one) and of payload bytes, and why the
-listing ended:
-
-  end 1   the end of the recording
-  end 2   an offset to the next packet is below 64 or above 10,064: the chain cannot be followed
-  end 3   the memory size of a header is below 64
-  end 4   there are more than 4,096 FEE ids
-  end 6   the recording goes beyond 2^60 bytes
-"""
-
-LIST_EPILOG = """\
-Numbers are decimal, or hexadecimal with 0x. Of several filters only the first of link, FEE id and
-stave is used.
-
-Exit status: 0 if the listing ended with 1 and all packets listed are sound; 1 if not; 2 if it could
-not be done as it was asked for.
-
-Examples:
-  python3 -m kesarimbu list recording.raw
-  python3 -m kesarimbu list --stave L5_42 --its recording.raw
-  zcat recording.raw.gz | python3 -m kesarimbu list --link 3 -
-"""
 
 
-def number(text: str, most: int) -> int:
-    """A number as it is written on the command line, at most `most`."""
-    is_hex = text[:2] in ("0x", "0X")
-    digits, known = (text[2:], "0123456789abcdefABCDEF") if is_hex else (text, "0123456789")
-    if not digits or digits.strip(known):
-        raise argparse.ArgumentTypeError(f"{text!r} is not a number, as 42 or 0x2A")
-    value = int(digits, 16 if is_hex else 10)
-    if value > most:
-        raise argparse.ArgumentTypeError(f"{text} is above {most}")
-    return value
+class FileAlone:
+    """The options of `list FILE`, with no word more."""
+
+    link = fee = stave = version = None
+    its = no_payload = False
+
+    def __init__(self, file: str) -> None:
+        self.file = file
 
 
-def number_of_8_bits(text: str) -> int:
-    return number(text, 0xFF)
+def options_of(words: list[str]) -> Options:
+    """The options that the words ask for. A file alone needs no parser, which takes longer to start than a small recording to list."""
+    if len(words) == 2 and words[0] == "list" and (words[1] == "-" or not words[1].startswith("-")):
+        return FileAlone(words[1])
+    from .options import understood
+    return understood(words)
 
 
-def number_of_16_bits(text: str) -> int:
-    return number(text, 0xFFFF)
+def fail(message: str) -> NoReturn:
+    """Ends the program, with what could not be done."""
+    from .options import misused
+    misused(message)
 
 
-class Help(argparse.RawDescriptionHelpFormatter):
-    """Help of a fixed width, with the texts as they are. (To ask the terminal for its width takes a tenth of the start.)"""
-
-    def __init__(self, prog: str) -> None:
-        super().__init__(prog, width=HELP_WIDTH)
-
-
-def parser() -> argparse.ArgumentParser:
-    """What the command line can be."""
-    top = argparse.ArgumentParser(prog=PROGRAM, description=DESCRIPTION, formatter_class=Help, allow_abbrev=False)
-    commands = top.add_subparsers(title="commands", dest="command", metavar="COMMAND", required=True, prog=PROGRAM)
-    add_list(commands)
-    return top
-
-
-def add_list(commands: argparse._SubParsersAction) -> None:
-    listed = commands.add_parser("list", help="list the packets of a recording, and what is wrong with them", description=LIST_DESCRIPTION,
-                                 epilog=LIST_EPILOG, formatter_class=Help, allow_abbrev=False)
-    listed.add_argument("file", metavar="FILE", help="the recording; - for standard input")
-    listed.add_argument("--link", metavar="N", type=number_of_8_bits, help="only packets of this link")
-    listed.add_argument("--fee", metavar="N", type=number_of_16_bits, help="only packets of this FEE id")
-    listed.add_argument("--stave", metavar="NAME", help="only packets of this stave: L5_42 is stave 42 of layer 5")
-    listed.add_argument("--version", metavar="N", type=number_of_8_bits,
-                        help="the header ID that all headers must have; without it, all must have that of the first packet listed")
-    listed.add_argument("--its", action="store_true", help="the system id must be that of the ITS, 32")
-    listed.add_argument("--no-payload", action="store_true", help="skip payload: go from header to header by the offset to the next packet")
-    listed.set_defaults(run=run_list, parser=listed)
-
-
-def run_list(options: argparse.Namespace) -> int:
+def run_list(options: Options) -> int:
     """Lists a recording on standard output."""
     try:
         source = open(STANDARD_INPUT, "rb", buffering=0, closefd=False) if options.file == "-" else options.file
@@ -118,14 +56,14 @@ def run_list(options: argparse.Namespace) -> int:
         listing = Listing(source, link=options.link, fee=options.fee, stave=options.stave, skip_payload=options.no_payload,
                           version=options.version, its=options.its)
     except OSError as error:
-        options.parser.error(f"cannot read {options.file}: {error.strerror}")
+        fail(f"cannot read {options.file}: {error.strerror}")
     except Refused as refused:
-        options.parser.error(f"argument --stave: {options.stave!r}: {refused}")
+        fail(f"argument --stave: {options.stave!r}: {refused}")
     with listing:
         return write_listing(listing, progress, options)
 
 
-def write_listing(listing: Listing, progress: Progress, options: argparse.Namespace) -> int:
+def write_listing(listing: Listing, progress: Progress, options: Options) -> int:
     out = sys.stdout.buffer
     for lines in views(listing, options):
         out.write(lines)
@@ -135,12 +73,12 @@ def write_listing(listing: Listing, progress: Progress, options: argparse.Namesp
     return SOUND if listing.refusal == Refused(END) and listing.unsound == 0 else NOT_SOUND
 
 
-def views(listing: Listing, options: argparse.Namespace) -> Iterator[memoryview]:
+def views(listing: Listing, options: Options) -> Iterator[memoryview]:
     """The lines of a listing. A read that fails ends the program; a write that fails is not met in here."""
     try:
         yield from listing.views()
     except OSError as error:
-        options.parser.error(f"cannot read {options.file}: {error.strerror}")
+        fail(f"cannot read {options.file}: {error.strerror}")
 
 
 def leave_output() -> None:
@@ -149,14 +87,15 @@ def leave_output() -> None:
 
 
 def main(words: list[str] | None = None) -> int:
-    options = parser().parse_args(words)
+    options = options_of(sys.argv[1:] if words is None else words)
     try:
-        return options.run(options)
+        return run_list(options)
     except BrokenPipeError:  # whoever reads the output has seen enough
         leave_output()
         return NOT_SOUND
     except OSError as error:
         leave_output()
+        from .options import PROGRAM
         print(f"{PROGRAM}: cannot write the output: {error.strerror}", file=sys.stderr)
         return MISUSE
     except KeyboardInterrupt:
@@ -165,4 +104,4 @@ def main(words: list[str] | None = None) -> int:
 
 
 if __name__ == "__main__":
-    sys.exit(main())
+    os._exit(main())  # all is written, and to take the interpreter apart would take a tenth of its start

@@ -17,7 +17,7 @@ if TYPE_CHECKING:
     from .windows import Source
 
 # How many bytes are read at a time, and how many bytes of lines are made at a time: so few that both stay in the processor's cache.
-WINDOW = 1 << 17
+WINDOW = 1 << 19
 ROOM = 1 << 18
 
 

@@ -7,7 +7,8 @@ import subprocess
 import sys
 import unittest
 
-from kesarimbu.__main__ import main
+from kesarimbu.__main__ import main, options_of
+from kesarimbu.options import understood
 from .differential import ROOT
 from .sources import file_with
 from make_recordings import every, header
@@ -171,6 +172,19 @@ class Misuse(unittest.TestCase):
         done = run("list", "-", preexec_fn=lambda: os.close(0))
         self.assertEqual(done.returncode, 2)
         self.assertIn(b"cannot read -", done.stderr)
+
+
+class Options(unittest.TestCase):
+    def test_a_file_alone_is_what_the_parser_understands(self):
+        for file in ("recording.raw", "-", "", "list"):
+            alone, parsed = options_of(["list", file]), understood(["list", file])
+            self.assertIsNot(type(alone), type(parsed))
+            for name in vars(parsed).keys() - {"command"}:
+                self.assertEqual(getattr(alone, name), getattr(parsed, name), name)
+
+    def test_other_words_are_left_to_the_parser(self):
+        self.assertTrue(options_of(["list", "--its", "recording.raw"]).its)
+        self.assertEqual(options_of(["list", "--", "-recording.raw"]).file, "-recording.raw")
 
 
 class Surroundings(unittest.TestCase):
