@@ -10,15 +10,13 @@ use rdh::rdh_cru::RDH_CRU_SIZE_BYTES;
 use scan_cdp::BytePlace;
 use scan_cdp::Examined;
 use scan_cdp::Initial;
+use scan_cdp::LIMIT;
 use scan_cdp::LoadCdp;
 use scan_cdp::Marks;
 use scan_cdp::OpenLoad;
 use scan_cdp::Part;
 use scan_cdp::Progress;
 use scan_cdp::Refusal;
-
-// No place, position or window end is above it.
-const LIMIT: u64 = 1_152_921_504_606_846_976;
 
 // The bytes that a want for a header asks for.
 pub const WANTED_HEADER: u64 = RDH_CRU_SIZE_BYTES as u64;
