@@ -17,8 +17,10 @@ use Rattle.text.specs.PutLaws.{respelled, sets-append}
 use Rattle.validators.specs.declared.RdhCruSanityValidator.{RdhCruSanityValidator}
 use Rattle.scan_cdp.specs.Answers.{Found, handed, passed, wants}
 use Rattle.scan_cdp.specs.Loads.{Loaded, loaded}
+use Rattle.scan_cdp.specs.Steps.{withLinks}
 use Rattle.scan_cdp.specs.declared.Part.{Part}
 use Rattle.scan_cdp.specs.declared.Settings.{Settings}
+use Rattle.scan_cdp.specs.declared.Progress.{Progress}
 use Rattle.scan_cdp.specs.declared.State.{State}
 use Rattle.input_scanner.specs.Replies.{loadOf}
 use Rattle.listing_lines.specs.Lines.{lineAt, room}
@@ -51,10 +53,11 @@ one-at-most true = omega arith
 one-at-most false = omega arith
 
 -- a reply with what the loads leave
-batches : (b : Batched) (out : List ℕ) (why : Stop) (v : RdhCruSanityValidator) (s : State) (at bad : ℕ) (feeIds left text : List ℕ)
-    → b ≡ stopped (stopOf why) v s feeIds text bad → at ≡ length text → left ≡ sets out 0 text → length text ≤ length out
-    → Batches b out (record { stop = why; state = s; validator = v; length = at; unsound = bad }) feeIds left
-batches b out why v s at bad feeIds left text is next stored within =
+batches : (b : Batched) (out : List ℕ) (why : Stop) (v : RdhCruSanityValidator) (p : Progress) (at bad : ℕ)
+    → (links feeIds left text : List ℕ) → b ≡ stopped (stopOf why) v (withLinks p links) feeIds text bad
+    → at ≡ length text → left ≡ sets out 0 text → length text ≤ length out
+    → Batches b out (record { stop = why; progress = p; validator = v; length = at; unsound = bad }) links feeIds left
+batches b out why v p at bad links feeIds left text is next stored within =
     let there = ap (λ (x : Batched). x .text) (sym is) in
     record {
       stop = ap (λ (x : Batched). x .stop) (sym is);
@@ -113,20 +116,20 @@ module _ {set : Settings} {v₀ : RdhCruSanityValidator} {s₀ : State} {feeIds�
 
   -- with no room there is no further load
   pub list-full : length out - at < room
-      → Batches all out₀ (record { stop = Why.Full; state = s; validator = v; length = at; unsound = bad }) feeIds out
+      → Batches all out₀ (record { stop = Why.Full; progress = s .progress; validator = v; length = at; unsound = bad }) (s .links) feeIds out
   unfolding batchedFrom
   list-full short =
-      batches all out₀ Why.Full v s at bad feeIds out (here .text)
+      batches all out₀ Why.Full v (s .progress) at bad (s .links) feeIds out (here .text)
       (here .same ∙ on _ _ (lt-ltb (length out₀) (length (here .text) + room) (omega (arith, short, at-within, here .next, same-size))))
       (here .next) (here .stored) (here .within)
 
-  module _ {r : Listed} {feeIds′ left : List ℕ} (lists : Lists (loaded set s feeIds w first last) v out at r feeIds′ left)
+  module _ {r : Listed} {links′ feeIds′ left : List ℕ} (lists : Lists (loaded set s feeIds w first last) v out at r links′ feeIds′ left)
       (test : room ≤ length out - at) where
     roomy : at + room ≤ length out
     roomy = omega (arith, test, at-within)
 
     abbrev got : Loaded Part
-    got = loadOf (r .load) feeIds′
+    got = loadOf (r .load) links′ feeIds′
 
     abbrev more : List ℕ
     more = here .text ++ linesOf v (got .answer) got
@@ -145,8 +148,8 @@ module _ {set : Settings} {v₀ : RdhCruSanityValidator} {s₀ : State} {feeIds�
     -- the loads after this one
     turned : batchedFrom (suc (here .turns)) set v s feeIds (here .text) bad w first last (length out₀)
         ≡ pick (isPacket (got .answer))
-        (batchedFrom (here .turns) set (r .validator) (r .load .state) feeIds′ more worse w first last (length out₀))
-        (stopped (answered (got .answer)) (r .validator) (r .load .state) feeIds′ more worse)
+        (batchedFrom (here .turns) set (r .validator) (withLinks (r .load .progress) links′) feeIds′ more worse w first last (length out₀))
+        (stopped (answered (got .answer)) (r .validator) (withLinks (r .load .progress) links′) feeIds′ more worse)
     unfolding batchedFrom
     turned =
         off _ _ (le-ltb (length out₀) (length (here .text) + room) (omega (arith, here .next, same-size)))
@@ -159,9 +162,9 @@ module _ {set : Settings} {v₀ : RdhCruSanityValidator} {s₀ : State} {feeIds�
         (sym (lists .load))
         ∙ (λ i.
         pick (isPacket (got .answer))
-        (batchedFrom (here .turns) set (validator-there i) (r .load .state) feeIds′ more (bad + unsound-there i) w first last
+        (batchedFrom (here .turns) set (validator-there i) (withLinks (r .load .progress) links′) feeIds′ more (bad + unsound-there i) w first last
         (length out₀))
-        (stopped (answered (got .answer)) (validator-there i) (r .load .state) feeIds′ more (bad + unsound-there i)))
+        (stopped (answered (got .answer)) (validator-there i) (withLinks (r .load .progress) links′) feeIds′ more (bad + unsound-there i)))
 
     lines-put : Put out at (linesOf v (got .answer) got) left (r .at)
     lines-put = respelled (ap (λ (x : Loaded Part). linesOf v (x .answer) x) (sym (lists .load))) (lists .lines)
@@ -193,10 +196,10 @@ module _ {set : Settings} {v₀ : RdhCruSanityValidator} {s₀ : State} {feeIds�
     -- an answer with no packet ends it
     pub list-ends : isPacket (got .answer) ≡ false
         → Batches all out₀
-        (record { stop = Why.Answered (r .load .answer); state = r .load .state; validator = r .validator; length = r .at; unsound = worse })
-        feeIds′ left
+        (record { stop = Why.Answered (r .load .answer); progress = r .load .progress; validator = r .validator; length = r .at; unsound = worse })
+        links′ feeIds′ left
     list-ends stops =
-        batches all out₀ (Why.Answered (r .load .answer)) (r .validator) (r .load .state) (r .at) worse feeIds′ left more
+        batches all out₀ (Why.Answered (r .load .answer)) (r .validator) (r .load .progress) (r .at) worse links′ feeIds′ left more
         (here .same ∙ turned ∙ off _ _ stops) next-there stored-there more-within
 
     -- a packet leads to the next turn, behind its lines
@@ -205,12 +208,12 @@ module _ {set : Settings} {v₀ : RdhCruSanityValidator} {s₀ : State} {feeIds�
         omega (arith, packet-there v (got .answer) got goes, next-there, here .next, length-more)
 
     pub list-goes-on : isPacket (got .answer) ≡ true → length feeIds′ ≡ length feeIds
-        → ListTurn set v₀ s₀ feeIds₀ w first last out₀ (r .validator) (r .load .state) feeIds′ left (r .at) worse
+        → ListTurn set v₀ s₀ feeIds₀ w first last out₀ (r .validator) (withLinks (r .load .progress) links′) feeIds′ left (r .at) worse
     list-goes-on goes kept = further (here .turns) refl (here .same ∙ turned ∙ on _ _ goes)
       where
         further : (n : ℕ) → n ≡ here .turns
-            → all ≡ batchedFrom n set (r .validator) (r .load .state) feeIds′ more worse w first last (length out₀)
-            → ListTurn set v₀ s₀ feeIds₀ w first last out₀ (r .validator) (r .load .state) feeIds′ left (r .at) worse
+            → all ≡ batchedFrom n set (r .validator) (withLinks (r .load .progress) links′) feeIds′ more worse w first last (length out₀)
+            → ListTurn set v₀ s₀ feeIds₀ w first last out₀ (r .validator) (withLinks (r .load .progress) links′) feeIds′ left (r .at) worse
         further zero is same =
             absurd (omega (arith, is, here .to-come, list-moves goes, next-there, here .next, more-within))
         further (suc n) is same =

@@ -15,9 +15,9 @@ text-first text out left stored fits =
     let start : 0 + length text ≡ length text = omega arith in
     stored ∙ sets-eq text out 0 (omega (arith, fits)) ∙ ap (λ (n : ℕ). text ++ drop n out) start
 
-pub left-there : (b : Batched) (out : List ℕ) (r : Batch) (feeIds left : List ℕ) → Batches b out r feeIds left
-    → listingOf r feeIds left ≡ leftBy b out
-left-there b out r feeIds left x =
+pub left-there : (b : Batched) (out : List ℕ) (r : Batch) (links feeIds left : List ℕ) → Batches b out r links feeIds left
+    → listingOf r links feeIds left ≡ leftBy b out
+left-there b out r links feeIds left x =
     λ i. record {
       stop = x .stop i;
       state = x .state i;

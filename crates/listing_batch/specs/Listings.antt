@@ -6,13 +6,14 @@ use lib.Dec.{ltb}
 use lib.ListN.{length, drop}
 use Rattle.basis.specs.Pick.{pick}
 use Rattle.validators.specs.declared.RdhCruSanityValidator.{RdhCruSanityValidator}
+use Rattle.scan_cdp.specs.Steps.{withLinks}
 use Rattle.scan_cdp.specs.declared.Settings.{Settings}
 use Rattle.scan_cdp.specs.declared.State.{State}
 use Rattle.listing_lines.specs.Lines.{room}
 use Rattle.listing_batch.specs.Batches.{Batched, Stopped, batched, stopOf, tooShort}
 use Rattle.listing_batch.specs.declared.Batch.{Batch}
 
--- The reply, and what the FEE list and the buffer then hold. The bytes are those written, or those needed.
+-- The reply, and what the lists and the buffer then hold. The bytes are those written, or those needed.
 pub record Listing : Type 0 where
   pub stop : Stopped
   pub state : State
@@ -22,11 +23,11 @@ pub record Listing : Type 0 where
   pub feeIds : List ℕ
   pub out : List ℕ
 
-abbrev pub listingOf : Batch → (feeIds out : List ℕ) → Listing
-listingOf r feeIds out =
+abbrev pub listingOf : Batch → (links feeIds out : List ℕ) → Listing
+listingOf r links feeIds out =
     record {
       stop = stopOf (r .stop);
-      state = r .state;
+      state = withLinks (r .progress) links;
       validator = r .validator;
       bytes = r .length;
       unsound = r .unsound;

@@ -2,12 +2,13 @@
 ghost use mathlib.Core.Path.{_≡_};
 ghost use lib.ListN.{length};
 ghost use Rattle.scan_cdp.specs.Answers.{loadAnswer};
+ghost use Rattle.scan_cdp.specs.Steps.{withLinks};
 ghost use Rattle.listing_batch.specs.Batches.{Batches, batched, isPacket};
 ghost use Rattle.listing_batch.specs.Listings.{listedInto, listingOf};
 use scan_cdp::BytePlace;
 use scan_cdp::LoadCdp;
+use scan_cdp::Progress;
 use scan_cdp::Settings;
-use scan_cdp::State;
 use validators::RdhCruSanityValidator;
 
 // Why no further load was made: its lines might not have had the room; the buffer is shorter than listing_lines::ROOM, so that none was made at all;
@@ -22,7 +23,7 @@ pub enum Stop {
 // sound.
 pub struct Batch {
     pub stop: Stop,
-    pub state: State,
+    pub progress: Progress,
     pub validator: RdhCruSanityValidator,
     pub length: usize,
     pub unsound: u64,
@@ -32,7 +33,8 @@ pub struct Batch {
 // not even room for one is refused, since it would stop every call.
 pub fn list_loads(
     set: Settings,
-    state: State,
+    progress: Progress,
+    links: &mut [u8; 256],
     validator: RdhCruSanityValidator,
     fee_ids: &mut [u16],
     window: &[u8],
@@ -40,25 +42,37 @@ pub fn list_loads(
     last: bool,
     out: &mut [u8],
 ) -> Batch
-    ensures { λ r. ⌜ listingOf r (now («fee_ids» .exit)) (now (out .exit))
-        ≡ listedInto (now (out .entry)) set validator state (now («fee_ids» .entry)) (now (window .entry)) (first .0) last ⌝ }
+    ensures { λ r. ⌜ listingOf r (now (links .exit)) (now («fee_ids» .exit)) (now (out .exit))
+        ≡ listedInto (now (out .entry)) set validator (withLinks progress (now (links .entry))) (now («fee_ids» .entry)) (now (window .entry))
+        (first .0) last ⌝ }
 {
     if out.len() < listing_lines::ROOM {
         return Batch {
             stop: Stop::TooShort,
-            state,
+            progress,
             validator,
             length: listing_lines::ROOM,
             unsound: 0,
         };
     }
-    put_loads(set, state, validator, fee_ids, window, first, last, out)
+    put_loads(
+        set,
+        progress,
+        links,
+        validator,
+        fee_ids,
+        window,
+        first,
+        last,
+        out,
+    )
 }
 
 // The same, with no word on a buffer that is too short.
 fn put_loads(
     set: Settings,
-    state: State,
+    progress: Progress,
+    links: &mut [u8; 256],
     validator: RdhCruSanityValidator,
     fee_ids: &mut [u16],
     window: &[u8],
@@ -67,17 +81,19 @@ fn put_loads(
     out: &mut [u8],
 ) -> Batch
     ensures { λ r. ⌜ Batches
-        (batched set validator state (now («fee_ids» .entry)) (now (window .entry)) (first .0) last (length (now (out .entry))))
-        (now (out .entry)) r (now («fee_ids» .exit)) (now (out .exit)) ⌝ }
+        (batched set validator (withLinks progress (now (links .entry))) (now («fee_ids» .entry)) (now (window .entry)) (first .0) last
+        (length (now (out .entry))))
+        (now (out .entry)) r (now (links .exit)) (now («fee_ids» .exit)) (now (out .exit)) ⌝ }
 {
-    let mut state = state;
+    let mut progress = progress;
     let mut validator = validator;
     let mut at = 0;
     let mut unsound = 0;
     while listing_lines::ROOM <= out.len() - at {
         let listed = listing_load::list_cdp(
             set,
-            state,
+            progress,
+            links,
             validator,
             fee_ids,
             window,
@@ -91,11 +107,11 @@ fn put_loads(
         at = listed.at;
         unsound += listed.unsound as u64;
         validator = listed.validator;
-        state = load.state;
+        progress = load.progress;
         if !is_packet(answer) {
             return Batch {
                 stop: Stop::Answered(answer),
-                state,
+                progress,
                 validator,
                 length: at,
                 unsound,
@@ -104,7 +120,7 @@ fn put_loads(
     }
     Batch {
         stop: Stop::Full,
-        state,
+        progress,
         validator,
         length: at,
         unsound,

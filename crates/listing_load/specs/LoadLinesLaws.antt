@@ -18,15 +18,15 @@ use Rattle.listing_load.specs.LoadLines.{Lists, linesOf, unsoundIn, vali
 use Rattle.listing_load.specs.declared.Listed.{Listed}
 
 -- a call that answers by the load's own answer
-pub lists : (l : Loaded Part) (v : RdhCruSanityValidator) (out : List ℕ) (at : ℕ) (r : Listed) (feeIds left : List ℕ) (a : LoadCdp)
-    → loadOf (r .load) feeIds ≡ l → r .load .answer ≡ a → r .validator ≡ validatorOf v (loadAnswer a)
+pub lists : (l : Loaded Part) (v : RdhCruSanityValidator) (out : List ℕ) (at : ℕ) (r : Listed) (links feeIds left : List ℕ) (a : LoadCdp)
+    → loadOf (r .load) links feeIds ≡ l → r .load .answer ≡ a → r .validator ≡ validatorOf v (loadAnswer a)
     → r .unsound ≡ unsoundIn v (loadAnswer a)
-    → Put out at (linesOf v (loadAnswer a) (loadOf (r .load) feeIds)) left (r .at)
-    → length (linesOf v (loadAnswer a) (loadOf (r .load) feeIds)) ≤ room → Lists l v out at r feeIds left
-lists l v out at r feeIds left a load is validator unsound lines short =
+    → Put out at (linesOf v (loadAnswer a) (loadOf (r .load) links feeIds)) left (r .at)
+    → length (linesOf v (loadAnswer a) (loadOf (r .load) links feeIds)) ≤ room → Lists l v out at r links feeIds left
+lists l v out at r links feeIds left a load is validator unsound lines short =
     let answer : loadAnswer a ≡ l .answer = sym (ap (λ (b : LoadCdp). loadAnswer b) is) ∙ ap (λ (m : Loaded Part). m .answer) load in
-    let same : linesOf v (loadAnswer a) (loadOf (r .load) feeIds) ≡ linesOf v (l .answer) l =
-    ap (λ (b : Answer (Found Part)). linesOf v b (loadOf (r .load) feeIds)) answer
+    let same : linesOf v (loadAnswer a) (loadOf (r .load) links feeIds) ≡ linesOf v (l .answer) l =
+    ap (λ (b : Answer (Found Part)). linesOf v b (loadOf (r .load) links feeIds)) answer
     ∙ ap (λ (m : Loaded Part). linesOf v (l .answer) m) load in
     record {
       load = load;

@@ -1,11 +1,12 @@
 // One load with what the listing says of it.
 ghost use Rattle.scan_cdp.specs.Loads.{loaded};
+ghost use Rattle.scan_cdp.specs.Steps.{withLinks};
 ghost use Rattle.listing_load.specs.LoadLines.{Lists};
 use input_scanner::Load;
 use scan_cdp::BytePlace;
 use scan_cdp::LoadCdp;
+use scan_cdp::Progress;
 use scan_cdp::Settings;
-use scan_cdp::State;
 use validators::RdhCruSanityValidator;
 
 // A load, listed: its reply, the validator for the next packet, the place behind the lines, and whether it is a packet that is not sound.
@@ -19,7 +20,8 @@ pub struct Listed {
 // Loads the next packet and puts what the listing says of it: a packet's lines, or the last lines with a refusal, and nothing with a want.
 pub fn list_cdp(
     set: Settings,
-    state: State,
+    progress: Progress,
+    links: &mut [u8; 256],
     validator: RdhCruSanityValidator,
     fee_ids: &mut [u16],
     window: &[u8],
@@ -29,10 +31,10 @@ pub fn list_cdp(
     at: usize,
 ) -> Listed
     ensures { λ r. ⌜ Lists
-        (loaded set state (now («fee_ids» .entry)) (now (window .entry)) (first .0) last)
-        validator (now (out .entry)) at r (now («fee_ids» .exit)) (now (out .exit)) ⌝ }
+        (loaded set (withLinks progress (now (links .entry))) (now («fee_ids» .entry)) (now (window .entry)) (first .0) last)
+        validator (now (out .entry)) at r (now (links .exit)) (now («fee_ids» .exit)) (now (out .exit)) ⌝ }
 {
-    let load = input_scanner::load_cdp(set, state, fee_ids, window, first, last);
+    let load = input_scanner::load_cdp(set, progress, links, fee_ids, window, first, last);
     let answer = load.answer;
     match answer {
         LoadCdp::Packet(packet) => {
@@ -52,7 +54,7 @@ pub fn list_cdp(
             unsound: false,
         },
         LoadCdp::Refused(why) => {
-            let counts = load.state.progress.counts;
+            let counts = load.progress.counts;
             let at = listing_lines::put_last(out, at, counts, why);
             Listed {
                 load,

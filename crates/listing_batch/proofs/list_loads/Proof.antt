@@ -25,7 +25,7 @@ returns-2 : tie.Need-returns-2
 unfolding listedInto
 returns-2 c =
     let call = c .before .before .before .before in
-    left-there _ _ _ _ _ (call .put-loads .ensures) ∙ sym (off _ _ (le-ltb _ _ (call .before .before .before .if1 .left)))
+    left-there _ _ _ _ _ _ (call .put-loads .ensures) ∙ sym (off _ _ (le-ltb _ _ (call .before .before .before .before .if1 .left)))
 
 pub list-loads-spec : {M : Type 1} → statement M
 list-loads-spec =
