@@ -77,7 +77,9 @@ list-cdp-requires c κs = search needs
 
 next-window-requires : tie.Need-next-window-requires Inv-loop μ-loop
 next-window-requires c κs =
-    let turn = c .before .before .before .before .before .before .before .before .before .before .before .before .before .before .before .before .before .before .before in
+    let listed = c .before .before .before .before .before .before .before .before in
+    let made = listed .before .before .before .before .before .before in
+    let turn = made .before .before .before .before .before in
     turn .loop .inv .3
 
 enum-known-next : tie.Need-enum-known-next Inv-loop μ-loop
@@ -88,7 +90,9 @@ enum-told-2 c = search needs
 
 flush-requires : tie.Need-flush-requires Inv-loop μ-loop
 flush-requires c κs =
-    let listed = c .before .before .before .before .before .before .before .before .before .before .before .before .before .before in
+    let asked = c .before .before .before .before .before in
+    let stored = asked .before .before .before .before .before .before in
+    let listed = stored .before .before .before in
     let made = listed .before .before .before .before .before .before in
     let tried = made .before .before in
     let turn = tried .before .before .before in
@@ -97,19 +101,28 @@ flush-requires c κs =
 same-length-4 : tie.Need-same-length-4 Inv-loop μ-loop
 same-length-4 c =
     let asked = c .before .before .before .before .before .before in
-    let turn = asked .before .before .before .before .before .before .before .before .before .before .before .before .before .before .before .before .before .before .before .before in
+    let stored = asked .before .before .before .before .before .before in
+    let listed = stored .before .before .before in
+    let made = listed .before .before .before .before .before .before in
+    let turn = made .before .before .before .before .before in
     asked .next-window .kept .0 ∙ turn .loop .inv .0
 
 same-length-5 : tie.Need-same-length-5 Inv-loop μ-loop
 same-length-5 c =
-    let listed = c .before .before .before .before .before .before .before .before .before .before .before .before .before .before .before in
-    let turn = listed .before .before .before .before .before .before .before .before .before .before .before in
+    let asked = c .before .before .before .before .before .before in
+    let stored = asked .before .before .before .before .before .before in
+    let listed = stored .before .before .before in
+    let made = listed .before .before .before .before .before .before in
+    let turn = made .before .before .before .before .before in
     listed .list-cdp .kept .1 .1 .1 .0 ∙ turn .loop .inv .1
 
 same-length-6 : tie.Need-same-length-6 Inv-loop μ-loop
 same-length-6 c =
-    let listed = c .before .before .before .before .before .before .before .before .before .before .before .before .before .before .before in
-    let turn = listed .before .before .before .before .before .before .before .before .before .before .before in
+    let asked = c .before .before .before .before .before .before in
+    let stored = asked .before .before .before .before .before .before in
+    let listed = stored .before .before .before in
+    let made = listed .before .before .before .before .before .before in
+    let turn = made .before .before .before .before .before in
     listed .list-cdp .kept .1 .1 .1 .1 .1 .1 .1 .0 ∙ turn .loop .inv .2
 
 returns-2 : tie.Need-returns-2 Inv-loop μ-loop
@@ -117,13 +130,18 @@ returns-2 c = tt
 
 loop-less : tie.Need-loop-less Inv-loop μ-loop
 loop-less c =
-    let test = c .before .before .before .before .before .before .before .before .before .before .before .before .before .before .before .before .before .before .before .before .before .before .before .before in
+    let asked = c .before .before .before .before .before in
+    let stored = asked .before .before .before .before .before .before in
+    let listed = stored .before .before .before in
+    let made = listed .before .before .before .before .before .before in
+    let test = made .before .before .before .before in
     omega (arith, test .loop-test .taken)
 
 loop-again : tie.Need-loop-again Inv-loop μ-loop
 loop-again c =
     let asked = c .before .before .before .before .before in
-    let listed = asked .before .before .before .before .before .before .before .before .before in
+    let stored = asked .before .before .before .before .before .before in
+    let listed = stored .before .before .before in
     let made = listed .before .before .before .before .before .before in
     let tried = made .before .before in
     let turn = tried .before .before .before in (

@@ -82,7 +82,9 @@ same-length-2 c =
 
 returns-4 : tie.Need-returns-4 Inv-loop μ-loop
 returns-4 c =
-    let start = c .before .before .before .before .before .before .before .before .before .before .before .before .before .before .before .before .before .before .before in
+    let reading = c .before .before .before .before .before .before .before in
+    let turn = reading .before .before .before .before .before in
+    let start = turn .before .before .before .before .before .before .before in
     let nothing : start .args .held .length ≡ 0 = start .pre .1 (omega arith) in (
       nothing-kept nothing,
       λ reached. omega arith,
@@ -111,7 +113,8 @@ same-length-3 c = c .before .before .loop .inv .0
 
 returns-5 : tie.Need-returns-5 Inv-loop μ-loop
 returns-5 c =
-    let start = c .before .before .before .before .before .before .before .before .before in
+    let turn = c .before .before in
+    let start = turn .before .before .before .before .before .before .before in
     let nothing : start .args .held .length ≡ 0 = start .pre .1 (omega arith) in
     (nothing-kept nothing, λ reached. omega arith, λ _. omega arith)
 
