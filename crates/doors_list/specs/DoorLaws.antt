@@ -7,9 +7,9 @@ use Rattle.listing_batch.specs.JoinLaws.{listed-known}
 use Rattle.listing_batch.specs.Listings.{Listing, listedInto}
 use Rattle.doors_scan_structs.specs.Plain.{settingsOf, stateOf}
 use Rattle.doors_scan_structs.specs.PlainLaws.{state-again}
-use Rattle.doors_scan_structs.specs.Replies.{kindWant}
-use Rattle.doors_scan_structs.specs.declared.plain.PlainSettings.{PlainSettings}
-use Rattle.doors_scan_structs.specs.declared.plain.PlainState.{PlainState}
+use Rattle.doors_scan_reply.specs.Replies.{kindWant}
+use Rattle.doors_scan_structs.specs.declared.PlainSettings.{PlainSettings}
+use Rattle.doors_scan_structs.specs.declared.PlainState.{PlainState}
 use Rattle.doors_verdict.specs.Plain.{validatorOf}
 use Rattle.doors_verdict.specs.PlainLaws.{validator-again}
 use Rattle.doors_verdict.specs.declared.plain.PlainValidator.{PlainValidator}

@@ -4,8 +4,8 @@ use mathlib.Core.Bool.{Bool}
 use mathlib.Core.List.{List}
 use Rattle.listing_batch.specs.Listings.{Listing, listedInto}
 use Rattle.doors_scan_structs.specs.Plain.{settingsOf, stateOf}
-use Rattle.doors_scan_structs.specs.declared.plain.PlainSettings.{PlainSettings}
-use Rattle.doors_scan_structs.specs.declared.plain.PlainState.{PlainState}
+use Rattle.doors_scan_structs.specs.declared.PlainSettings.{PlainSettings}
+use Rattle.doors_scan_structs.specs.declared.PlainState.{PlainState}
 use Rattle.doors_verdict.specs.Plain.{validatorOf}
 use Rattle.doors_verdict.specs.declared.plain.PlainValidator.{PlainValidator}
 use Rattle.doors_list.specs.Replies.{listedWith}

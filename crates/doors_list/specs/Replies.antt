@@ -5,8 +5,8 @@ use Rattle.validators.specs.declared.RdhCruSanityValidator.{RdhCruSanityValidat
 use Rattle.scan_cdp.specs.declared.Progress.{Progress}
 use Rattle.listing_batch.specs.Batches.{Stopped, answered, full, tooShort}
 use Rattle.doors_scan_structs.specs.Plain.{plainState}
-use Rattle.doors_scan_structs.specs.Replies.{answerWith, plainAnswer, refusedWith}
-use Rattle.doors_scan_structs.specs.declared.reply.PlainAnswer.{PlainAnswer}
+use Rattle.doors_scan_reply.specs.Replies.{answerWith, plainAnswer, refusedWith}
+use Rattle.doors_scan_reply.specs.declared.PlainAnswer.{PlainAnswer}
 use Rattle.doors_verdict.specs.Plain.{plainValidator}
 use Rattle.doors_list.specs.declared.PlainListed.{PlainListed}
 

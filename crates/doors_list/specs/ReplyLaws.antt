@@ -15,9 +15,9 @@ use Rattle.listing_batch.specs.Batches.{Stopped, answered, full, isPacket, stop
 use Rattle.listing_batch.specs.JoinLaws.{Known}
 use Rattle.listing_batch.specs.declared.Stop.{Stop}
 use Rattle.listing_batch.specs.declared.Stop.the-variants as Why
-use Rattle.doors_scan_structs.specs.ReplyLaws.{readAnswer}
-use Rattle.doors_scan_structs.specs.Replies.{kindWant}
-use Rattle.doors_scan_structs.specs.declared.reply.PlainAnswer.{PlainAnswer}
+use Rattle.doors_scan_reply.specs.ReplyLaws.{readAnswer}
+use Rattle.doors_scan_reply.specs.Replies.{kindWant}
+use Rattle.doors_scan_reply.specs.declared.PlainAnswer.{PlainAnswer}
 use Rattle.doors_list.specs.Replies.{kindFull, plainStop}
 
 -- Why a listing stopped, as C's struct and the length beside it say.

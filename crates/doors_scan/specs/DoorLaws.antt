@@ -15,10 +15,10 @@ use Rattle.scan_laws.specs.RunLaws.{loaded-answers}
 use Rattle.doors_scan.specs.Doors.{Left, leftBy, loadedThrough}
 use Rattle.doors_scan_structs.specs.Plain.{settingsOf, stateOf}
 use Rattle.doors_scan_structs.specs.PlainLaws.{state-again}
-use Rattle.doors_scan_structs.specs.Replies.{headerLeft, kindPacket, plainAnswer}
-use Rattle.doors_scan_structs.specs.ReplyLaws.{Writable, answer-again, marks-again, marks-of-one-again, readAnswer, readMarks, readOne}
-use Rattle.doors_scan_structs.specs.declared.plain.PlainSettings.{PlainSettings}
-use Rattle.doors_scan_structs.specs.declared.plain.PlainState.{PlainState}
+use Rattle.doors_scan_reply.specs.Replies.{headerLeft, kindPacket, plainAnswer}
+use Rattle.doors_scan_reply.specs.ReplyLaws.{Writable, answer-again, marks-again, marks-of-one-again, readAnswer, readMarks, readOne}
+use Rattle.doors_scan_structs.specs.declared.PlainSettings.{PlainSettings}
+use Rattle.doors_scan_structs.specs.declared.PlainState.{PlainState}
 
 -- The reply of a load that is left ..
 abbrev pub readLoad : Left → Loaded Part

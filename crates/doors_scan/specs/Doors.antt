@@ -11,10 +11,10 @@ use Rattle.scan_cdp.specs.declared.LoadMarks.{LoadMarks}
 use Rattle.scan_cdp.specs.declared.Part.{Part}
 use Rattle.scan_cdp.specs.declared.State.{State}
 use Rattle.doors_scan_structs.specs.Plain.{settingsOf, stateOf}
-use Rattle.doors_scan_structs.specs.Replies.{headerLeft, replyOf}
-use Rattle.doors_scan_structs.specs.declared.plain.PlainSettings.{PlainSettings}
-use Rattle.doors_scan_structs.specs.declared.plain.PlainState.{PlainState}
-use Rattle.doors_scan_structs.specs.declared.reply.PlainReply.{PlainReply}
+use Rattle.doors_scan_reply.specs.Replies.{headerLeft, replyOf}
+use Rattle.doors_scan_structs.specs.declared.PlainSettings.{PlainSettings}
+use Rattle.doors_scan_structs.specs.declared.PlainState.{PlainState}
+use Rattle.doors_scan_reply.specs.declared.PlainReply.{PlainReply}
 
 -- The reply, and what the lent arrays hold after a call.
 pub record Left : Type 0 where

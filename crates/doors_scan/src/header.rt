@@ -1,7 +1,7 @@
 // The bytes of a packet's header, for whoever called from C.
 ghost use mathlib.Core.Path.{_≡_};
 ghost use Rattle.scan_cdp.specs.Answers.{examinedAnswer, loadAnswer};
-ghost use Rattle.doors_scan_structs.specs.Replies.{headerLeft};
+ghost use Rattle.doors_scan_reply.specs.Replies.{headerLeft};
 use scan_cdp::Examined;
 use scan_cdp::LoadCdp;
 

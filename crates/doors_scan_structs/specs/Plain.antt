@@ -12,8 +12,8 @@ use Rattle.scan_cdp.specs.declared.OpenLoad.the-variants as Load
 use Rattle.scan_cdp.specs.declared.Progress.{Progress}
 use Rattle.scan_cdp.specs.declared.Settings.{Settings}
 use Rattle.scan_cdp.specs.declared.State.{State}
-use Rattle.doors_scan_structs.specs.declared.plain.PlainSettings.{PlainSettings}
-use Rattle.doors_scan_structs.specs.declared.plain.PlainState.{PlainState}
+use Rattle.doors_scan_structs.specs.declared.PlainSettings.{PlainSettings}
+use Rattle.doors_scan_structs.specs.declared.PlainState.{PlainState}
 
 -- A number that is given or not.
 abbrev pub option8 : Bool → ℕ → Option8

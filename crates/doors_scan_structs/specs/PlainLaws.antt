@@ -14,8 +14,8 @@ use Rattle.scan_cdp.specs.declared.Progress.{Progress}
 use Rattle.scan_cdp.specs.declared.Settings.{Settings}
 use Rattle.scan_cdp.specs.declared.State.{State}
 use Rattle.doors_scan_structs.specs.Plain.{isOpen, openLoad, option8, option16, plainState, progressOf, settingsOf, startOr0, stateOf}
-use Rattle.doors_scan_structs.specs.declared.plain.PlainSettings.{PlainSettings}
-use Rattle.doors_scan_structs.specs.declared.plain.PlainState.{PlainState}
+use Rattle.doors_scan_structs.specs.declared.PlainSettings.{PlainSettings}
+use Rattle.doors_scan_structs.specs.declared.PlainState.{PlainState}
 
 -- ---- the state
 
