@@ -5,20 +5,16 @@ use mathlib.Core.List.{List, [], _∷_, _++_}
 use Prim.Native.Nat.{ℕ, zero, suc, _+_, _-_, _<_}
 use native.Mathlib.Numerals.{add-one}
 use native.Mathlib.Omega.{arith}
-use lib.ListN.{length, getD, take, drop, length-drop, length-take}
-use lib.Seq.{split-at, take-all, getD-take, getD-drop, getD-append-seam}
-use Rattle.its_names.specs.StaveNames.{underscore, Number, Named}
+use lib.ListN.{length, getD, take, drop, length-take}
+use lib.Seq.{split-at, getD-take, getD-drop, getD-append-seam}
+use Rattle.its_names_numbers.specs.Numbers.{Number}
+use Rattle.its_names_numbers.specs.Parsing.{numberParsed}
+use Rattle.its_names_numbers.specs.declared.ParsedU8.{ParsedU8}
+use Rattle.its_names_numbers.specs.declared.ParsedU8.the-variants as u8
+use Rattle.its_names_numbers.proofs.Slices.{part, to-end}
+use Rattle.its_names.specs.StaveNames.{underscore, Named}
 use Rattle.its_names.specs.StaveNameLaws.{Without, numbers-of-cut, length-named}
-use Rattle.its_names.specs.Parsing.{nameParsed, startParsed, bothNumbers, numberParsed, FirstUnderscore}
-use Rattle.its_names.specs.declared.ParsedU8.{ParsedU8}
-use Rattle.its_names.specs.declared.ParsedU8.the-variants as u8
-
--- What `&s[a..e]` lends.
-abbrev pub part : ℕ → ℕ → List ℕ → List ℕ
-part a e s = take (e - a) (drop a s)
-
-pub to-end : (a : ℕ) (s : List ℕ) → part a (length s) s ≡ drop a s
-to-end a s = take-all (length s - a) (drop a s) (omega (arith, length-drop a s))
+use Rattle.its_names.specs.Parsing.{nameParsed, startParsed, bothNumbers, FirstUnderscore}
 
 to-end-behind : (first : ℕ) (rest : List ℕ) (j : ℕ) → part (suc j + 1) (suc (length rest)) (first ∷ rest) ≡ drop (suc j) rest
 to-end-behind first rest j = to-end (suc j + 1) (first ∷ rest) ∙ ap (λ (n : ℕ). drop n (first ∷ rest)) (add-one (suc j))

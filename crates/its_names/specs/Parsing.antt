@@ -5,11 +5,11 @@ use mathlib.Core.List.{List}
 use mathlib.Core.Bool.{Bool, true, false}
 use Prim.Native.Nat.{ℕ, _≤_, _<_}
 use lib.ListN.{length, getD}
-use Rattle.its_names.specs.StaveNames.{Digits, Number, Named, underscore}
+use Rattle.its_names_numbers.specs.declared.ParsedU8.{ParsedU8}
+use Rattle.its_names_numbers.specs.declared.ParsedU8.the-variants as u8
+use Rattle.its_names.specs.StaveNames.{Named, underscore}
 use Rattle.its_names.specs.declared.ParsedName.{ParsedName}
 use Rattle.its_names.specs.declared.ParsedName.the-variants.{Stave, NotAStaveName}
-use Rattle.its_names.specs.declared.ParsedU8.{ParsedU8}
-use Rattle.its_names.specs.declared.ParsedU8.the-variants as u8
 
 abbrev pub nameParsed : List ℕ → ParsedName → Type 0
 nameParsed name (Stave layer stave) = Named name layer stave
@@ -19,18 +19,10 @@ abbrev pub startParsed : List ℕ → Bool → Type 0
 startParsed name true = (0 < length name) × (getD name 0 0 < 0x80) × (getD name 0 0 ≡ underscore → ⊥)
 startParsed name false = (layer stave : ℕ) → Named name layer stave → ⊥
 
-abbrev pub numberParsed : List ℕ → ParsedU8 → Type 0
-numberParsed text (u8.Number n) = Number text n
-numberParsed text u8.NotANumber = (n : ℕ) → Number text n → ⊥
-
 abbrev pub bothNumbers : ParsedU8 → ParsedU8 → ParsedName
 bothNumbers (u8.Number layer) (u8.Number stave) = Stave layer stave
 bothNumbers (u8.Number layer) u8.NotANumber = NotAStaveName
 bothNumbers u8.NotANumber stave = NotAStaveName
-
-abbrev pub digitsParsed : List ℕ → ParsedU8 → Type 0
-digitsParsed text (u8.Number n) = Digits text n
-digitsParsed text u8.NotANumber = (n : ℕ) → Digits text n → ⊥
 
 -- The first `_` behind the first byte stands at k; k is the length if there is none.
 pub record FirstUnderscore (name : List ℕ) (k : ℕ) : Type 0 where

@@ -1,40 +1,14 @@
 -- Laws of stave names: the grammar is unambiguous, so that each list of bytes has one answer; and the names of E7 and R8 with theirs.
 use mathlib.Core.Path.{_≡_, refl, ap, ap₂, sym, _∙_, subst}
 use mathlib.Core.List.{List, [], _∷_, _++_}
-use Prim.Native.Nat.{ℕ, zero, suc, _+_, _-_, _*_, _^_, _≤_, _<_}
-use native.Mathlib.Nat.{pow-succ'}
+use Prim.Native.Nat.{ℕ, zero, suc, _+_, _≤_, _<_}
 use native.Mathlib.Omega.{arith}
 use lib.ListN.{length, getD, drop, length-append}
 use Rattle.basis.specs.Refusals.{Answer, gives, refuses}
 use Rattle.its.specs.FeeIds.{feeIdOf}
-use Rattle.its_names.specs.StaveNames.{plusSign, underscore, digit0, Digit, AllDigits, valueOf, Digits, Number, plain, signed, Named, Answered, named, not-named}
-
--- one more digit makes the number ten times as large and adds itself
-pub one-more-digit : (text : List ℕ) (digit : ℕ) → valueOf (text ++ (digit ∷ [])) ≡ valueOf text * 10 + (digit - digit0)
-unfolding valueOf
-one-more-digit [] digit = omega arith
-one-more-digit (first ∷ text) digit =
-    let longer : length (text ++ (digit ∷ [])) ≡ suc (length text) = length-append text (digit ∷ []) ∙ omega arith in
-    let power = ap (λ (n : ℕ). (first - digit0) * 10 ^ n) longer ∙ ap (λ (n : ℕ). (first - digit0) * n) (pow-succ' 10 (length text)) in
-    omega (arith, one-more-digit text digit)
-
--- digits begin with no `+`
-pub unsigned : (text digits : List ℕ) (n : ℕ) → Digits text n → text ≡ plusSign ∷ digits → ⊥
-unsigned text digits n d e =
-    let plus : getD text 0 0 ≡ plusSign = ap (λ (t : List ℕ). getD t 0 0) e in
-    omega (arith, d .each 0 (d .one-or-more))
-
-pub one-number : (text : List ℕ) (n m : ℕ) → Number text n → Number text m → n ≡ m
-one-number text n m (plain d) (plain e) = sym (d .spell) ∙ e .spell
-one-number text n m (plain d) (signed digits p e) = absurd (unsigned text digits n d p)
-one-number text n m (signed digits p d) (plain e) = absurd (unsigned text digits m e p)
-one-number text n m (signed digits p d) (signed digits′ p′ e) =
-    let same : digits ≡ digits′ = cc in
-    sym (d .spell) ∙ ap valueOf same ∙ e .spell
-
-pub some-bytes : (text : List ℕ) (n : ℕ) → Number text n → 0 < length text
-some-bytes text n (plain d) = d .one-or-more
-some-bytes text n (signed digits p d) = omega (arith, ap length p)
+use Rattle.its_names_numbers.specs.Numbers.{plusSign, Digit, AllDigits, valueOf, Digits, Number, plain, signed}
+use Rattle.its_names_numbers.specs.NumberLaws.{one-number, some-bytes}
+use Rattle.its_names.specs.StaveNames.{underscore, Named, Answered, named, not-named}
 
 -- No element of the list is x.
 abbrev pub Without : ℕ → List ℕ → Type 0

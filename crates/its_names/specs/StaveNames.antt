@@ -1,48 +1,16 @@
 -- Stave names as lists of bytes, and what is answered to one (N4 to N6, R8).
 use mathlib.Core.Path.{_≡_}
 use mathlib.Core.List.{List, [], _∷_, _++_}
-use Prim.Native.Nat.{ℕ, _+_, _-_, _*_, _^_, _≤_, _<_}
-use lib.ListN.{length, getD}
+use Prim.Native.Nat.{ℕ, _<_}
 use Rattle.basis.specs.Refusals.{Answer, gives, refuses}
 use Rattle.its.specs.FeeIds.{feeIdOf}
+use Rattle.its_names_numbers.specs.Numbers.{Number}
 use Rattle.its_names.specs.declared.StaveFeeId.{StaveFeeId}
 use Rattle.its_names.specs.declared.StaveFeeId.the-variants.{FeeId, NotAStaveName}
 
--- The bytes `+`, `_`, `0` and `9`.
-abbrev pub plusSign : ℕ
-plusSign = 43
-
+-- The byte `_`.
 abbrev pub underscore : ℕ
 underscore = 95
-
-abbrev pub digit0 : ℕ
-digit0 = 48
-
-abbrev pub digit9 : ℕ
-digit9 = 57
-
-abbrev pub Digit : ℕ → Type 0
-Digit byte = (digit0 ≤ byte) × (byte ≤ digit9)
-
-abbrev pub AllDigits : List ℕ → Type 0
-AllDigits text = (k : ℕ) → k < length text → Digit (getD text k 0)
-
--- The number that decimal digits spell: a digit counts ten to the power of how many stand behind it.
-unfoldable pub valueOf : List ℕ → ℕ
-valueOf [] = 0
-valueOf (digit ∷ behind) = (digit - digit0) * 10 ^ length behind + valueOf behind
-
--- Digits, at least one, which spell n, and n is at most 255 (N5).
-pub record Digits (text : List ℕ) (n : ℕ) : Type 0 where
-  pub one-or-more : 0 < length text
-  pub each : AllDigits text
-  pub spell : valueOf text ≡ n
-  pub at-most : n ≤ 255
-
--- A number in a name: digits, or `+` and digits (N5).
-pub data Number (text : List ℕ) (n : ℕ) : Type 0 where
-  plain : Digits text n → Number text n
-  signed : (digits : List ℕ) → text ≡ plusSign ∷ digits → Digits digits n → Number text n
 
 -- The bytes of a stave name, part by part, with the layer and the stave that they name (N4).
 pub record Named (name : List ℕ) (layer stave : ℕ) : Type 0 where

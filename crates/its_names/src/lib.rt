@@ -1,12 +1,11 @@
 // Stave names of the inner tracking system (ITS).
 ghost use mathlib.Core.Path.{_≡_};
-ghost use Prim.Native.Nat.{_+_, _-_, _*_, _≤_, _<_, min};
+ghost use Prim.Native.Nat.{_<_};
 ghost use lib.ListN.{length};
-ghost use Rattle.its_names.specs.StaveNames.{digit0, Digit, Answered, nameAnswer};
-ghost use Rattle.its_names.specs.Parsing.{nameParsed, startParsed, bothNumbers, FirstUnderscore, numberParsed, digitsParsed};
-
-// A number of a stave name is at most 255: any larger value is kept as 256.
-const TOO_LARGE: u16 = 256;
+ghost use Rattle.its_names.specs.StaveNames.{Answered, nameAnswer};
+ghost use Rattle.its_names.specs.Parsing.{nameParsed, startParsed, bothNumbers, FirstUnderscore};
+use its_names_numbers::ParsedU8;
+use its_names_numbers::parse_u8;
 
 // The FEE id that a stave name stands for, or refusal 8.
 pub enum StaveFeeId {
@@ -18,12 +17,6 @@ pub enum StaveFeeId {
 enum ParsedName {
     Stave(u8, u8),
     NotAStaveName,
-}
-
-// The number that a part of a stave name is.
-enum ParsedU8 {
-    Number(u8),
-    NotANumber,
 }
 
 // The FEE id of the stave that is named, as `L5_42`, at uplink 0. A second `_` is refused, which the Rust overlooks.
@@ -99,53 +92,4 @@ fn underscore_place(name: &[u8]) -> usize
         i += 1;
     }
     i
-}
-
-// A number as Rust's `parse::<u8>` takes it: an optional `+`, then digits.
-fn parse_u8(text: &[u8]) -> ParsedU8
-    ensures { λ r. ⌜ numberParsed (now (text .entry)) r ⌝ }
-{
-    if 0 < text.len() {
-        if text[0] == b'+' {
-            let behind = 1;
-            return parse_digits(&text[behind..]);
-        }
-    }
-    parse_digits(text)
-}
-
-// The number that one or more digits spell, if it is at most 255. There may be any number of leading zeros.
-fn parse_digits(text: &[u8]) -> ParsedU8
-    ensures { λ r. ⌜ digitsParsed (now (text .entry)) r ⌝ }
-{
-    if text.len() == 0 {
-        return ParsedU8::NotANumber;
-    }
-    let mut value: u16 = 0;
-    let mut i = 0;
-    while i < text.len() {
-        let digit = text[i];
-        if digit < b'0' || digit > b'9' {
-            return ParsedU8::NotANumber;
-        }
-        value = with_digit(value, digit);
-        i += 1;
-    }
-    if value == TOO_LARGE {
-        return ParsedU8::NotANumber;
-    }
-    ParsedU8::Number(value as u8)
-}
-
-// The value with one more digit behind it. It stops at 256, so that no number of digits overflows it.
-fn with_digit(value: u16, digit: u8) -> u16
-    requires { ⌜ (value ≤ 256) × Digit digit ⌝ }
-    ensures { λ r. ⌜ r ≡ min 256 (value * 10 + (digit - digit0)) ⌝ }
-{
-    let longer = value * 10 + (digit - b'0') as u16;
-    if longer < TOO_LARGE {
-        longer
-    } else {
-        TOO_LARGE
-    }
 }

@@ -1,7 +1,7 @@
 -- Each way out says which constructor each argument is, and the definition computes there.
 use mathlib.Core.Path.{sym, ap, ap₂}
 use Rattle.its_names.specs.Parsing.{bothNumbers}
-use Rattle.its_names.specs.declared.ParsedU8.{ParsedU8}
+use Rattle.its_names_numbers.specs.declared.ParsedU8.{ParsedU8}
 use Rattle.its_names.proofs.both_numbers.Statement.{statement}
 use Rattle.its_names.proofs.both_numbers.Tie as tie
 

@@ -6,11 +6,11 @@ use native.Mathlib.Numerals.{add-one}
 use native.Mathlib.Omega.{arith}
 use lib.ListN.{length, getD, take}
 use lib.Seq.{take-suc}
-use Rattle.its_names.specs.StaveNames.{plusSign, digit0, valueOf, Digits, Number, plain, signed}
-use Rattle.its_names.specs.StaveNameLaws.{one-more-digit, unsigned}
-use Rattle.its_names.specs.Parsing.{numberParsed, digitsParsed}
-use Rattle.its_names.specs.declared.ParsedU8.{ParsedU8}
-use Rattle.its_names.specs.declared.ParsedU8.the-variants as u8
+use Rattle.its_names_numbers.specs.Numbers.{plusSign, digit0, valueOf, Digits, Number, plain, signed}
+use Rattle.its_names_numbers.specs.NumberLaws.{one-more-digit, unsigned}
+use Rattle.its_names_numbers.specs.Parsing.{numberParsed, digitsParsed}
+use Rattle.its_names_numbers.specs.declared.ParsedU8.{ParsedU8}
+use Rattle.its_names_numbers.specs.declared.ParsedU8.the-variants as u8
 
 -- a value that stops at 256, and the number that the digits spell, each with one digit more
 pub stopped : (value spelt digit : ℕ) → value ≡ min 256 spelt → min 256 (value * 10 + digit) ≡ min 256 (spelt * 10 + digit)

@@ -7,10 +7,10 @@ use borrow.Author.Count.{below-more}
 use borrow.Author.Tests.{ltb-true, ltb-false}
 use lib.ListN.{length, getD, take}
 use lib.Seq.{take-all}
-use Rattle.its_names.specs.StaveNames.{Digit, valueOf}
-use Rattle.its_names.proofs.Numbers.{stopped, digit-passed}
-use Rattle.its_names.proofs.parse_digits.Statement.{statement}
-use Rattle.its_names.proofs.parse_digits.Tie as tie
+use Rattle.its_names_numbers.specs.Numbers.{Digit, valueOf}
+use Rattle.its_names_numbers.proofs.Numbers.{stopped, digit-passed}
+use Rattle.its_names_numbers.proofs.parse_digits.Statement.{statement}
+use Rattle.its_names_numbers.proofs.parse_digits.Tie as tie
 
 abbrev Inv-loop : tie.InvT-loop
 Inv-loop text value₀ i₀ value i = (i ≤ length text) × (value ≡ min 256 (valueOf (take i text))) × ((k : ℕ) → k < i → Digit (getD text k 0))

@@ -6,11 +6,11 @@ use Prim.Native.Nat.{ℕ}
 use native.Mathlib.Omega.{arith}
 use lib.ListN.{length, getD, drop}
 use lib.Seq.{drop-cons}
-use Rattle.its_names.specs.Parsing.{digitsParsed}
-use Rattle.its_names.proofs.Numbers.{plain-parsed, signed-parsed}
-use Rattle.its_names.proofs.Parts.{to-end}
-use Rattle.its_names.proofs.parse_u8.Statement.{statement}
-use Rattle.its_names.proofs.parse_u8.Tie as tie
+use Rattle.its_names_numbers.specs.Parsing.{digitsParsed}
+use Rattle.its_names_numbers.proofs.Numbers.{plain-parsed, signed-parsed}
+use Rattle.its_names_numbers.proofs.Slices.{to-end}
+use Rattle.its_names_numbers.proofs.parse_u8.Statement.{statement}
+use Rattle.its_names_numbers.proofs.parse_u8.Tie as tie
 
 shared-slice-read-if2 : tie.Need-shared-slice-read-if2
 shared-slice-read-if2 c = omega arith
