@@ -45,9 +45,10 @@ loop-less c = omega arith
 
 loop-again : tie.Need-loop-again Inv-loop μ-loop
 loop-again c =
-    let text = c .before .before .before .before .before .before .before .before .args .text .now in
-    let i = c .before .before .before .before .before .loop .i in
-    let inv = c .before .before .before .before .before .loop .inv in
+    let turn = c .before .before .before .before .before in
+    let text = turn .before .before .before .args .text .now in
+    let i = turn .loop .i in
+    let inv = turn .loop .inv in
     let spelt = digit-passed text i (c .before .before .before .before .loop-test .taken) in
     let digit : Digit (getD text i 0) = (c .before .before .if2 .left, ltb-false _ _ (c .before .if3 .left)) in
     (omega arith, c .with-digit .ensures ∙ stopped _ _ _ (inv .1) ∙ ap (min 256) (sym spelt), below-more _ _ (inv .2) digit)
