@@ -19,7 +19,6 @@ use doors_verdict::plain::validator_of;
 use listing_batch::Stop;
 use scan_cdp::BytePlace;
 use scan_cdp::Progress;
-use scan_cdp::State;
 use validators::RdhCruSanityValidator;
 
 // The kind of an answer that only a listing has: the buffer may have no room for the next packet's lines.
@@ -53,13 +52,10 @@ pub extern "C" fn kesarimbu_list(
         ≡ listedThrough settings state validator (now (links .entry)) (now («fee_ids» .entry)) (now (window .entry)) first last
         (now (out .entry)) ⌝ }
 {
-    let before = *links;
     let batch = listing_batch::list_loads(
         settings_of(settings),
-        State {
-            progress: progress_of(state),
-            links: before,
-        },
+        progress_of(state),
+        links,
         validator_of(validator),
         fee_ids,
         window,
@@ -68,16 +64,8 @@ pub extern "C" fn kesarimbu_list(
         out,
     );
     let stop = batch.stop;
-    let state = batch.state;
-    let after = state.links;
-    *links = after;
-    plain_listed(
-        stop,
-        state.progress,
-        batch.validator,
-        batch.length,
-        batch.unsound,
-    )
+    let progress = batch.progress;
+    plain_listed(stop, progress, batch.validator, batch.length, batch.unsound)
 }
 
 fn plain_listed(

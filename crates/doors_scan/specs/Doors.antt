@@ -5,11 +5,12 @@ use mathlib.Core.List.{List}
 use mathlib.Core.Path.{_≡_}
 use Rattle.scan_cdp.specs.Answers.{examinedAnswer}
 use Rattle.scan_cdp.specs.Loads.{Loaded, loaded, noLoadMarks, replied}
+use Rattle.scan_cdp.specs.Steps.{withLinks}
 use Rattle.scan_cdp.specs.Windows.{examined}
 use Rattle.scan_cdp.specs.declared.Examined.{Examined}
 use Rattle.scan_cdp.specs.declared.LoadMarks.{LoadMarks}
 use Rattle.scan_cdp.specs.declared.Part.{Part}
-use Rattle.scan_cdp.specs.declared.State.{State}
+use Rattle.scan_cdp.specs.declared.Progress.{Progress}
 use Rattle.doors_scan_structs.specs.Plain.{settingsOf, stateOf}
 use Rattle.doors_scan_reply.specs.Replies.{headerLeft, replyOf}
 use Rattle.doors_scan_structs.specs.declared.PlainSettings.{PlainSettings}
@@ -42,9 +43,10 @@ unfoldable pub loadedThrough : PlainSettings → PlainState → (links feeIds w 
 loadedThrough settings state links feeIds w first last header =
     leftBy (loaded (settingsOf settings) (stateOf state links) feeIds w first last) header
 
--- That a reply, the links and the header's bytes, which were `before`, are those of an answer with its marks and its state, whatever FEE ids
--- stand beside them.
-abbrev pub HandedBack : Examined → LoadMarks → State → (before : List ℕ) → PlainReply → (links header : List ℕ) → Type 0
-HandedBack answer marks state before r links header =
-    (feeIds : List ℕ)
-    → left r links feeIds header ≡ leftBy (record { answer = examinedAnswer answer; marks = marks; state = state; feeIds = feeIds }) before
+-- That a reply and the header's bytes, which were `before`, are those of an answer with its marks and how far it came, whatever links and FEE
+-- ids stand beside them.
+abbrev pub HandedBack : Examined → LoadMarks → Progress → (before : List ℕ) → PlainReply → (header : List ℕ) → Type 0
+HandedBack answer marks progress before r header =
+    (links feeIds : List ℕ)
+    → left r links feeIds header
+    ≡ leftBy (record { answer = examinedAnswer answer; marks = marks; state = withLinks progress links; feeIds = feeIds }) before

@@ -1,7 +1,6 @@
 // What C and Python call: the examination of a header and the load of a packet, over structs by value that C has too.
 ghost use mathlib.Core.Path.{_≡_};
 ghost use Rattle.doors_scan.specs.Doors.{HandedBack, examinedThrough, left, loadedThrough};
-ghost use Rattle.doors_scan_structs.specs.Plain.{stateOf};
 use crate::header::put_header;
 use doors_scan_reply::PlainReply;
 use doors_scan_reply::alone;
@@ -10,10 +9,12 @@ use doors_scan_structs::PlainSettings;
 use doors_scan_structs::PlainState;
 use doors_scan_structs::progress_of;
 use doors_scan_structs::settings_of;
+use input_scanner::examine;
+use input_scanner::load_cdp;
 use scan_cdp::BytePlace;
 use scan_cdp::Examined;
 use scan_cdp::LoadMarks;
-use scan_cdp::State;
+use scan_cdp::Progress;
 
 mod header;
 
@@ -32,15 +33,13 @@ pub extern "C" fn kesarimbu_examine(
     ensures { λ r. ⌜ left r (now (links .exit)) (now («fee_ids» .exit)) (now (header .exit))
         ≡ examinedThrough settings state (now (links .entry)) (now («fee_ids» .entry)) (now (window .entry)) first last (now (header .entry)) ⌝ }
 {
-    let before = *links;
     let set = settings_of(settings);
-    let state = state_of(state, before);
+    let progress = progress_of(state);
     let first = BytePlace(first);
-    let examination = input_scanner::examine(set, state, fee_ids, window, first, last);
+    let examination = examine(set, progress, links, fee_ids, window, first, last);
     let answer = examination.answer;
     let marks = examination.marks;
-    let after = examination.state;
-    hand_back(answer, alone(marks), after, links, header)
+    hand_back(answer, alone(marks), examination.progress, header)
 }
 
 // Loads the next packet.
@@ -58,38 +57,24 @@ pub extern "C" fn kesarimbu_load(
     ensures { λ r. ⌜ left r (now (links .exit)) (now («fee_ids» .exit)) (now (header .exit))
         ≡ loadedThrough settings state (now (links .entry)) (now («fee_ids» .entry)) (now (window .entry)) first last (now (header .entry)) ⌝ }
 {
-    let before = *links;
     let set = settings_of(settings);
-    let state = state_of(state, before);
+    let progress = progress_of(state);
     let first = BytePlace(first);
-    let load = input_scanner::load_cdp(set, state, fee_ids, window, first, last);
+    let load = load_cdp(set, progress, links, fee_ids, window, first, last);
     let answer = load.answer;
     let marks = load.marks;
-    let after = load.state;
-    hand_back(Examined::Answered(answer), marks, after, links, header)
+    hand_back(Examined::Answered(answer), marks, load.progress, header)
 }
 
-fn state_of(n: PlainState, links: [u8; 256]) -> State
-    ensures { λ r. ⌜ r ≡ stateOf n links ⌝ }
-{
-    State {
-        progress: progress_of(n),
-        links,
-    }
-}
-
-// Writes the links and a packet's header, and gives the rest as the reply.
+// Writes a packet's header, and gives the rest as the reply.
 fn hand_back(
     answer: Examined,
     marks: LoadMarks,
-    state: State,
-    links: &mut [u8; 256],
+    progress: Progress,
     header: &mut [u8; 64],
 ) -> PlainReply
-    ensures { λ r. ⌜ HandedBack answer marks state (now (header .entry)) r (now (links .exit)) (now (header .exit)) ⌝ }
+    ensures { λ r. ⌜ HandedBack answer marks progress (now (header .entry)) r (now (header .exit)) ⌝ }
 {
-    let after = state.links;
-    *links = after;
     put_header(answer, header);
-    reply_of(answer, marks, state.progress)
+    reply_of(answer, marks, progress)
 }

@@ -1,6 +1,6 @@
--- Each of reply, links and header is one part of what is left.
-use Prim.Native.Nat.{ℕ}
+-- Reply and header are what is left beside links and FEE ids.
 use mathlib.Core.List.{List}
+use Prim.Native.Nat.{ℕ}
 use Rattle.doors_scan.specs.Doors.{left}
 use borrow.Author.Needs.{needs}
 use Rattle.doors_scan.proofs.hand_back.Statement.{statement}
@@ -13,10 +13,7 @@ reply-of-requires : tie.Need-reply-of-requires
 reply-of-requires c κs = search needs
 
 returns : tie.Need-returns
-returns c =
-    let written = c .before in
-    let args = written .before .before .before .args in
-    λ (feeIds : List ℕ) i. left (c .reply-of .ensures i) (args .state .links) feeIds (written .put-header .ensures i)
+returns c = λ (links : List ℕ) (feeIds : List ℕ) i. left (c .reply-of .ensures i) links feeIds (c .before .put-header .ensures i)
 
 pub hand-back-spec : {M : Type 1} → statement M
 hand-back-spec = tie.close (tie.spec put-header-requires reply-of-requires returns)

@@ -1,11 +1,11 @@
 -- The examination of what the structs say is handed back, with its marks as those of a load that makes no other.
 use mathlib.Core.Path.{_≡_, ap, _∙_}
-use Rattle.input_scanner.specs.Replies.{examinationOf}
 use Rattle.scan_cdp.specs.Answers.{examinedAnswer}
 use Rattle.scan_cdp.specs.Loads.{noLoadMarks, replied}
-use Rattle.scan_cdp.specs.Steps.{Entry}
+use Rattle.scan_cdp.specs.Steps.{Entry, withLinks}
 use Rattle.scan_cdp.specs.Windows.{examined}
 use Rattle.scan_cdp.specs.declared.Part.{Part}
+use Rattle.scan_window.specs.Examinations.{examinationOf}
 use Rattle.doors_scan.specs.Doors.{examinedThrough, leftBy}
 use Rattle.doors_scan_structs.specs.Plain.{settingsOf, stateOf}
 use borrow.Author.Needs.{needs}
@@ -15,8 +15,8 @@ use Rattle.doors_scan.proofs.kesarimbu_examine.Tie as tie
 settings-of-requires : tie.Need-settings-of-requires
 settings-of-requires c κs = search needs
 
-state-of-requires : tie.Need-state-of-requires
-state-of-requires c κs = search needs
+progress-of-requires : tie.Need-progress-of-requires
+progress-of-requires c κs = search needs
 
 examine-requires : tie.Need-examine-requires
 examine-requires c κs = search needs
@@ -33,25 +33,26 @@ same-length c = search needs
 returns : tie.Need-returns
 unfolding examinedThrough
 returns c =
-    let marked = c .before .before .before in
-    let called = marked .before .before .before .before .before in
-    let asked = called .before .before in
-    let args = asked .before .before .before .before .before .args in
+    let marked = c .before .before in
+    let called = marked .before .before .before .before in
+    let asked = called .before .before .before in
+    let args = asked .before .before .before .before .args in
     let examination = called .examine in
-    let feeIds = examination .last .1 .1 .0 in
-    let is : examinationOf (examination .result) feeIds
+    let links = examination .last .1 .1 .0 in
+    let feeIds = examination .last .1 .1 .1 .0 in
+    let is : examinationOf (examination .result) links feeIds
     ≡ examined (settingsOf (args .settings)) (stateOf (args .state) (args .links .now)) (args .fee-ids .now) (args .window .now) (args .first)
     (args .last) =
     examination .ensures
-    ∙ (λ i. examined (asked .before .settings-of .ensures i) (asked .state-of .ensures i) (args .fee-ids .now) (args .window .now) (args .first)
-    (args .last)) in
-    c .hand-back .ensures feeIds
+    ∙ (λ i. examined (asked .before .settings-of .ensures i) (withLinks (asked .progress-of .ensures i) (args .links .now)) (args .fee-ids .now)
+    (args .window .now) (args .first) (args .last)) in
+    c .hand-back .ensures links feeIds
     ∙ (λ i.
     leftBy
     (record {
       answer = examinedAnswer (examination .result .answer);
       marks = marked .alone .ensures i;
-      state = examination .result .state;
+      state = withLinks (examination .result .progress) links;
       feeIds = feeIds;
     })
     (args .header .now))
@@ -62,7 +63,7 @@ kesarimbu-examine-spec =
     tie.close
     (tie.spec
     settings-of-requires
-    state-of-requires
+    progress-of-requires
     examine-requires
     alone-requires
     hand-back-requires

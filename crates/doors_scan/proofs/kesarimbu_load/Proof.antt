@@ -2,6 +2,7 @@
 use mathlib.Core.Path.{_≡_, ap, _∙_}
 use Rattle.input_scanner.specs.Replies.{loadOf}
 use Rattle.scan_cdp.specs.Loads.{Loaded, loaded}
+use Rattle.scan_cdp.specs.Steps.{withLinks}
 use Rattle.scan_cdp.specs.declared.Part.{Part}
 use Rattle.doors_scan.specs.Doors.{leftBy, loadedThrough}
 use Rattle.doors_scan_structs.specs.Plain.{settingsOf, stateOf}
@@ -12,8 +13,8 @@ use Rattle.doors_scan.proofs.kesarimbu_load.Tie as tie
 settings-of-requires : tie.Need-settings-of-requires
 settings-of-requires c κs = search needs
 
-state-of-requires : tie.Need-state-of-requires
-state-of-requires c κs = search needs
+progress-of-requires : tie.Need-progress-of-requires
+progress-of-requires c κs = search needs
 
 load-cdp-requires : tie.Need-load-cdp-requires
 load-cdp-requires c κs = search needs
@@ -27,25 +28,26 @@ same-length c = search needs
 returns : tie.Need-returns
 unfolding loadedThrough
 returns c =
-    let called = c .before .before .before .before .before .before .before in
-    let asked = called .before .before in
-    let args = asked .before .before .before .before .before .args in
+    let called = c .before .before .before .before .before in
+    let asked = called .before .before .before in
+    let args = asked .before .before .before .before .args in
     let load = called .load-cdp in
-    let feeIds = load .last .1 .1 .0 in
-    let is : loadOf (load .result) feeIds
+    let links = load .last .1 .1 .0 in
+    let feeIds = load .last .1 .1 .1 .0 in
+    let is : loadOf (load .result) links feeIds
     ≡ loaded (settingsOf (args .settings)) (stateOf (args .state) (args .links .now)) (args .fee-ids .now) (args .window .now) (args .first)
     (args .last) =
     load .ensures
-    ∙ (λ i. loaded (asked .before .settings-of .ensures i) (asked .state-of .ensures i) (args .fee-ids .now) (args .window .now) (args .first)
-    (args .last)) in
-    c .hand-back .ensures feeIds ∙ ap (λ (l : Loaded Part). leftBy l (args .header .now)) is
+    ∙ (λ i. loaded (asked .before .settings-of .ensures i) (withLinks (asked .progress-of .ensures i) (args .links .now)) (args .fee-ids .now)
+    (args .window .now) (args .first) (args .last)) in
+    c .hand-back .ensures links feeIds ∙ ap (λ (l : Loaded Part). leftBy l (args .header .now)) is
 
 pub kesarimbu-load-spec : {M : Type 1} → statement M
 kesarimbu-load-spec =
     tie.close
     (tie.spec
     settings-of-requires
-    state-of-requires
+    progress-of-requires
     load-cdp-requires
     hand-back-requires
     same-length
