@@ -21,7 +21,9 @@ pub extern "C" fn kesarimbu_load_all(
     stats: bool,
 ) -> u64 {
     let set = settings(skip_payload, stats);
-    let mut state = State::new();
+    let state = State::new();
+    let mut progress = state.progress;
+    let mut links = state.links;
     let mut held = at_start(whole, buffer.len());
     let mut packets = 0;
     let mut turns = u64::MAX;
@@ -33,9 +35,17 @@ pub extern "C" fn kesarimbu_load_all(
             return packets;
         }
         let w = &buffer[start..end];
-        let load = input_scanner::load_cdp(set, state, fee_ids, w, held.first, held.last);
+        let load = input_scanner::load_cdp(
+            set,
+            progress,
+            &mut links,
+            fee_ids,
+            w,
+            held.first,
+            held.last,
+        );
         let answer = load.answer;
-        state = load.state;
+        progress = load.progress;
         if is_packet(answer) {
             packets = std::num::wrapping_add_u64(packets, 1);
         } else {

@@ -35,7 +35,9 @@ fn list(buffer: &mut [u8], fee_ids: &mut [u16], out: &mut [u8])
     requires { ⌜ room ≤ length (now out) ⌝ }
 {
     let set = listing_start::list_settings();
-    let mut state = State::new();
+    let state = State::new();
+    let mut progress = state.progress;
+    let mut links = state.links;
     let mut validator = listing_start::new_validator();
     let mut held = listing_window::empty();
     let mut used = 0;
@@ -50,7 +52,8 @@ fn list(buffer: &mut [u8], fee_ids: &mut [u16], out: &mut [u8])
         let w = &buffer[start..end];
         let listed = listing_load::list_cdp(
             set,
-            state,
+            progress,
+            &mut links,
             validator,
             fee_ids,
             w,
@@ -63,7 +66,7 @@ fn list(buffer: &mut [u8], fee_ids: &mut [u16], out: &mut [u8])
         let answer = load.answer;
         used = listed.at;
         validator = listed.validator;
-        state = load.state;
+        progress = load.progress;
         let Next::Window(next) = next_window(buffer, held, answer) else {
             flush(out, used);
             return;

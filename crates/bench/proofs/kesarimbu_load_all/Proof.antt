@@ -6,11 +6,11 @@ use Rattle.bench.proofs.kesarimbu_load_all.Statement.{statement}
 use Rattle.bench.proofs.kesarimbu_load_all.Tie as tie
 
 abbrev Inv-loop : tie.InvT-loop
-Inv-loop fd buffer₀ whole fee-ids₀ skip-payload stats set state₀ held₀ packets₀ turns₀ buffer fee-ids state held packets turns =
+Inv-loop fd buffer₀ whole fee-ids₀ skip-payload stats set progress₀ links₀ held₀ packets₀ turns₀ buffer fee-ids progress links held packets turns =
     (length buffer ≡ length buffer₀) × (length fee-ids ≡ length fee-ids₀)
 
 abbrev μ-loop : tie.MeasureT-loop
-μ-loop fd buffer₀ whole fee-ids₀ skip-payload stats set state₀ held₀ packets₀ turns₀ buffer fee-ids state held packets turns = turns
+μ-loop fd buffer₀ whole fee-ids₀ skip-payload stats set progress₀ links₀ held₀ packets₀ turns₀ buffer fee-ids progress links held packets turns = turns
 
 settings-requires : tie.Need-settings-requires Inv-loop μ-loop
 settings-requires c κs = search needs
