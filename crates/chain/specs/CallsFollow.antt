@@ -1,19 +1,10 @@
--- All calls follow the chain (D3.1). The statement stands first; what follows is its proof.
-use Prim.Native.Nat.{ℕ, _+_, _/_}
-use mathlib.Core.Path.{_≡_, ap, sym, _∙_}
-use mathlib.Core.List.{List, [], _∷_}
-use lib.ListN.{length}
-use Rattle.basis.specs.Pick.{off, pick}
-use Rattle.scan_cdp.specs.Loads.{loaded, noLoadMarks}
-use Rattle.scan_cdp.specs.Steps.{Entry, unchanged}
+-- The statement that all calls follow the chain (D3.1).
+use Prim.Native.Nat.{ℕ}
+use mathlib.Core.Path.{_≡_}
+use mathlib.Core.List.{List}
 use Rattle.scan_cdp.specs.declared.Settings.{Settings}
-use Rattle.scan_laws.specs.RunLaws.{enough}
-use Rattle.chain.specs.Calls.{Call, Hold, WindowOf, Windows, along, endsChain, examination, examinedBy, examines, free, held, heldBack, keptBy, loadAlong, loads, replies, replyTo, servedBy, windowOf}
-use Rattle.chain.specs.Chain.{Kept, chain, isRefused, left, next}
-use Rattle.chain.specs.ChainLaws.{chain-unfolds}
-use Rattle.chain.specs.ExaminationLaws.{examination-follows, foundBy}
-use Rattle.chain.specs.Following.{all-follow}
-use Rattle.chain.specs.LoadLaws.{HeldFine, entry-ends, held-fine, load-follows}
+use Rattle.chain.specs.Calls.{Call, Windows, along, replies}
+use Rattle.chain.specs.Chain.{Kept, chain}
 
 -- For any recording, settings, starting state and FEE list, and for any list of calls that lend windows of that recording, the replies are
 -- the chain's entries, cut into consecutive runs.
@@ -21,54 +12,3 @@ abbrev pub CallsFollow : Type 0
 CallsFollow =
     (recording : List ℕ) (set : Settings) (start : Kept) (calls : List Call) → Windows recording calls
     → replies set start calls ≡ along set start calls (chain recording set start)
-
--- ---- one call
-
--- What is behind the next entry.
-abbrev behind : List ℕ → Settings → Kept → List (Entry (List ℕ))
-behind recording set k = pick (isRefused (next recording set k .answer)) [] (chain recording set (left (next recording set k)))
-
--- A call replies as it is served, and the chain goes on from where it left off unless it ended it.
-abbrev Serves : List ℕ → Settings → Kept → Call → Type 0
-Serves recording set k c =
-    servedBy set k c (next recording set k) (behind recording set k)
-    ≡ record { reply = replyTo set k c; rest = pick (endsChain (replyTo set k c)) [] (chain recording set (keptBy (replyTo set k c))) }
-
--- what is served, where an examination finds an entry
-served-found : (recording : List ℕ) (set : Settings) (k : Kept) (h : Hold) (found : Entry (List ℕ)) → HeldFine k h
-    → found ≡ foundBy k (next recording set k) h
-    → examinedBy k (next recording set k) (behind recording set k) h
-    ≡ record {
-      reply = examination found;
-      rest = pick (endsChain (examination found)) [] (chain recording set (left found));
-    }
-served-found recording set k free found fine is =
-    (λ i. record {
-      reply = examination (next recording set k);
-      rest = pick (sym (entry-ends recording set k) i) [] (chain recording set (left (next recording set k)));
-    })
-    ∙ ap (λ (x : Entry (List ℕ)). record { reply = examination x; rest = pick (endsChain (examination x)) [] (chain recording set (left x)) })
-    (sym is)
-served-found recording set k (held a) found (no-pass, goes-on) is =
-    (λ i. record {
-      reply = examination (unchanged (k .state) (k .feeIds) a);
-      rest = (sym (chain-unfolds recording set k) ∙ sym (off [] (chain recording set k) goes-on)) i;
-    })
-    ∙ ap (λ (x : Entry (List ℕ)). record { reply = examination x; rest = pick (endsChain (examination x)) [] (chain recording set (left x)) })
-    (sym is)
-
-serves : (recording : List ℕ) (set : Settings) (k : Kept) (c : Call) → WindowOf recording (windowOf c) → Serves recording set k c
-unfolding servedBy replyTo loaded
-serves recording set k (examines w) of =
-    served-found recording set k (heldBack set k w (next recording set k)) _ (held-fine set k w (next recording set k))
-    (examination-follows recording set k w of)
-serves recording set k (loads w) of =
-    ap (loadAlong set w noLoadMarks k) (sym (chain-unfolds recording set k))
-    ∙ load-follows recording set w of (length (w .bytes) / 64 + 1) noLoadMarks k (enough (k .state) (w .bytes) (w .first))
-
--- ---- all calls
-
-pub calls-follow : CallsFollow
-calls-follow recording set start calls windows =
-    all-follow (chain recording set) (next recording set) (behind recording set) (chain-unfolds recording set)
-    (replyTo set) keptBy endsChain (servedBy set) (λ (c : Call). WindowOf recording (windowOf c)) (serves recording set) start calls windows

@@ -15,6 +15,9 @@ pub record Kept : Type 0 where
   pub state : State
   pub feeIds : List ℕ
 
+abbrev pub placeOf : Kept → ℕ
+placeOf k = k .state .progress .place .0
+
 -- What an entry leaves of both.
 abbrev pub left : {P : Type 0} → Entry P → Kept
 left e = record { state = e .state; feeIds = e .feeIds }
@@ -27,12 +30,16 @@ abbrev pub isRefused : {P : Type 0} → Answer (Found P) → Bool
 isRefused (gives found) = false
 isRefused (refuses number values) = true
 
--- At most n entries. A refused one is the last (C3); a step, which has no window, has no 6 but the one by state and list.
+-- What is behind an entry, of a chain that goes on from what it left: a refused one is the last (C3).
+abbrev pub behind : (Kept → List (Entry (List ℕ))) → Entry (List ℕ) → List (Entry (List ℕ))
+behind onward e = pick (isRefused (e .answer)) [] (onward (left e))
+
+-- At most n entries. A step, which has no window, has no refusal 6 but the one by state and list.
 unfoldable pub chainOf : ℕ → List ℕ → Settings → Kept → List (Entry (List ℕ))
 chainOf zero recording set k = []
 chainOf (suc n) recording set k =
     let e = next recording set k in
-    e ∷ pick (isRefused (e .answer)) [] (chainOf n recording set (left e))
+    e ∷ behind (chainOf n recording set) e
 
 -- The chain (C1). Each entry but the last moves the byte place on by 64 or more, so that length / 64 + 1 entries are all (`ChainLaws`).
 unfoldable pub chain : List ℕ → Settings → Kept → List (Entry (List ℕ))

@@ -1,83 +1,70 @@
 -- Laws of the chain: each entry that is not refused moves the byte place on, so that the chain is one entry and the chain from there on.
 use Prim.Native.Nat.{ℕ, zero, suc, _+_, _*_, _/_, _<_, _≤_}
 use mathlib.Core.Bool.{Bool, true, false, true≢false}
-use mathlib.Core.Path.{_≡_, refl, ap, sym, subst, _∙_}
+use mathlib.Core.Path.{_≡_, refl, ap, _∙_}
 use mathlib.Core.List.{List, [], _∷_}
 use native.Mathlib.Omega.{arith}
-use native.Mathlib.Numerals.{add-one}
-use borrow.Author.Tests.{ltb-true, ltb-false}
-use lib.Dec.{ltb}
 use lib.ListN.{length, drop, length-drop}
-use Rattle.basis.specs.Pick.{off, on, pick}
+use Rattle.basis.specs.Pick.{pick}
+use Rattle.basis.specs.Refusals.{refuses}
 use Rattle.serde_rdh.specs.Layout.{decoded}
-use Rattle.scan_cdp.specs.Steps.{Entry, ended, entryOf, progressAfter, step, outcomeIn, unusable}
+use Rattle.scan_cdp.specs.Steps.{Entry, unchanged, ended, entryOf, progressAfter, unusable}
 use Rattle.scan_cdp.specs.declared.Settings.{Settings}
-use Rattle.scan_laws.specs.StepLaws.{place-moves, known-here}
-use Rattle.scan_laws.specs.WindowLaws.{step-ended, step-header}
-use Rattle.chain.specs.Chain.{Kept, chain, chainOf, isRefused, left, next}
+use Rattle.scan_laws.specs.OutcomeLaws.{known-here}
+use Rattle.scan_laws.specs.RowLaws.{place-moves}
+use Rattle.scan_laws.specs.StepLaws.{step-cases, step-six}
+use Rattle.chain.specs.Chain.{Kept, behind, chain, chainOf, isRefused, left, next, placeOf}
 
 -- ---- an entry moves on
 
-abbrev pub placeOf : Kept → ℕ
-placeOf k = k .state .progress .place .0
-
 -- An entry has a whole header at the byte place, and leaves the place 64 or more further on.
-pub record MovesOn (recording : List ℕ) (k k′ : Kept) : Type 0 where
-  pub whole : placeOf k + 64 ≤ length recording
-  pub least : placeOf k + 64 ≤ placeOf k′
+record MovesOn (recording : List ℕ) (k k′ : Kept) : Type 0 where
+  whole : placeOf k + 64 ≤ length recording
+  least : placeOf k + 64 ≤ placeOf k′
 
-pub next-unusable : (recording : List ℕ) (set : Settings) (k : Kept) → unusable (k .state) (k .feeIds) ≡ true
-    → isRefused (next recording set k .answer) ≡ true
-unfolding step
-next-unusable recording set k e = ap (λ (x : Entry (List ℕ)). isRefused (x .answer)) (on _ _ e)
-
-entered-moves : (set : Settings) (k : Kept) (recording : List ℕ) → 64 ≤ length (drop (placeOf k) recording)
-    → placeOf k + 64
-    ≤ entryOf set (outcomeIn set (k .state .progress) (k .feeIds) (decoded (drop (placeOf k) recording))) (k .state) (k .feeIds)
-    (decoded (drop (placeOf k) recording)) (drop (placeOf k) recording) (length recording) .state .progress .place .0
-unfolding entryOf progressAfter
-entered-moves set k recording whole =
-    let rest = drop (placeOf k) recording in
-    place-moves (set .«skip_payload») _ (decoded rest) (placeOf k) (length rest) (length recording)
-    (known-here set (k .state) (k .feeIds) (decoded rest)) (omega (arith, whole, length-drop (placeOf k) recording))
-
-pub next-moves : (recording : List ℕ) (set : Settings) (k : Kept) → isRefused (next recording set k .answer) ≡ false
+next-moves : (recording : List ℕ) (set : Settings) (k : Kept) → isRefused (next recording set k .answer) ≡ false
     → MovesOn recording k (left (next recording set k))
-unfolding ended
-next-moves recording set k goes = by-state (unusable (k .state) (k .feeIds)) refl
-  where
-    by-length : unusable (k .state) (k .feeIds) ≡ false → (b : Bool) → ltb (length (drop (placeOf k) recording)) 64 ≡ b
-        → MovesOn recording k (left (next recording set k))
-    by-length usable true short =
-        absurd (true≢false (sym (ap (λ (x : Entry (List ℕ)). isRefused (x .answer))
-        (step-ended set (k .state) (k .feeIds) (drop (placeOf k) recording) (length recording) usable (ltb-true _ 64 short))) ∙ goes))
-    by-length usable false long =
-        let whole = ltb-false (length (drop (placeOf k) recording)) 64 long in
-        record {
-          whole = omega (arith, whole, length-drop (placeOf k) recording);
-          least =
-              subst (λ (x : Entry (List ℕ)). placeOf k + 64 ≤ x .state .progress .place .0)
-              (sym (step-header set (k .state) (k .feeIds) (drop (placeOf k) recording) (length recording) usable whole))
-              (entered-moves set k recording whole);
-        }
-
-    by-state : (b : Bool) → unusable (k .state) (k .feeIds) ≡ b → MovesOn recording k (left (next recording set k))
-    by-state true e = absurd (true≢false (sym (next-unusable recording set k e) ∙ goes))
-    by-state false e = by-length e (ltb (length (drop (placeOf k) recording)) 64) refl
+unfolding ended entryOf progressAfter
+next-moves recording set k =
+    let rest = drop (placeOf k) recording in
+    step-cases set (k .state) (k .feeIds) rest (length recording) (λ e. isRefused (e .answer) ≡ false → MovesOn recording k (left e))
+    (λ six goes. absurd (true≢false goes))
+    (λ usable short goes. absurd (true≢false goes))
+    (λ usable whole goes.
+    let inside : placeOf k + 64 ≤ length recording = omega (arith, whole, length-drop (placeOf k) recording) in
+    record {
+      whole = inside;
+      least =
+          place-moves set _ (decoded rest) (placeOf k) (length rest) (length recording)
+          (known-here set (k .state) (k .feeIds) (decoded rest)) inside;
+    })
 
 -- ---- the chain, one entry at a time
 
 -- So many entries are enough from here on.
-pub record Enough (recording : List ℕ) (n : ℕ) (k : Kept) : Type 0 where
-  pub some : 1 ≤ n
-  pub all : length recording < placeOf k + 64 * n
+record Enough (recording : List ℕ) (n : ℕ) (k : Kept) : Type 0 where
+  some : 1 ≤ n
+  all : length recording < placeOf k + 64 * n
 
-pub enough-left : (recording : List ℕ) (n : ℕ) (k k′ : Kept) → Enough recording (suc n) k → MovesOn recording k k′ → Enough recording n k′
+enough-left : (recording : List ℕ) (n : ℕ) (k k′ : Kept) → Enough recording (suc n) k → MovesOn recording k k′ → Enough recording n k′
 enough-left recording n k k′ enough moves =
     record {
       some = omega (arith, enough .all, moves .whole);
       all = omega (arith, enough .all, moves .least);
     }
+
+chain-enough : (recording : List ℕ) (k : Kept) → Enough recording (length recording / 64 + 1) k
+chain-enough recording k = record { some = omega arith; all = omega arith }
+
+-- What holds where a scan stands if it holds behind the next entry, unless that is refused, holds everywhere: a chain ends.
+pub chain-induction : (recording : List ℕ) (set : Settings) (P : Kept → Type 0)
+    → ((k : Kept) → (isRefused (next recording set k .answer) ≡ false → P (left (next recording set k))) → P k)
+    → (k : Kept) → P k
+chain-induction recording set P here k = within (length recording / 64 + 1) k (chain-enough recording k)
+  where
+    within : (n : ℕ) (k : Kept) → Enough recording n k → P k
+    within zero k enough = absurd (omega (arith, enough .some))
+    within (suc n) k enough = here k (λ goes. within n _ (enough-left recording n k _ enough (next-moves recording set k goes)))
 
 pick-same : {A : Type 0} (b : Bool) (x y z : A) → (b ≡ false → y ≡ z) → pick b x y ≡ pick b x z
 pick-same true x y z e = refl
@@ -97,14 +84,17 @@ same-chain (suc n) (suc m) recording set k one other =
     same-chain n m recording set (left e)
     (enough-left recording n k (left e) one moves) (enough-left recording m k (left e) other moves)))
 
-pub chain-enough : (recording : List ℕ) (k : Kept) → Enough recording (length recording / 64 + 1) k
-chain-enough recording k = record { some = omega arith; all = omega arith }
-
 -- The chain is the next entry and, unless that is refused, the chain from there on.
 pub chain-unfolds : (recording : List ℕ) (set : Settings) (k : Kept)
-    → chain recording set k
-    ≡ next recording set k ∷ pick (isRefused (next recording set k .answer)) [] (chain recording set (left (next recording set k)))
+    → chain recording set k ≡ next recording set k ∷ behind (chain recording set) (next recording set k)
 unfolding chain chainOf
 chain-unfolds recording set k =
     let n = length recording / 64 + 1 in
     same-chain n (suc n) recording set k (chain-enough recording k) (record { some = omega arith; all = omega arith })
+
+-- Where state and list meet refusal 6, that is all of the chain.
+pub chain-six : (recording : List ℕ) (set : Settings) (k : Kept) → unusable (k .state) (k .feeIds) ≡ true
+    → chain recording set k ≡ unchanged (k .state) (k .feeIds) (refuses 6 []) ∷ []
+chain-six recording set k six =
+    chain-unfolds recording set k
+    ∙ ap (λ (e : Entry (List ℕ)). e ∷ behind (chain recording set) e) (step-six set (k .state) (k .feeIds) _ (length recording) six)

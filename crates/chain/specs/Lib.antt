@@ -1,10 +1,21 @@
+-- What is defined.
 pub mod Chain
+pub mod Walk
 pub mod Following
 pub mod Calls
+pub mod PacketLists
+-- What is stated.
+pub mod CallsFollow
+pub mod Packets
+pub mod AddedBytes
+-- Why it holds.
 pub mod ChainLaws
+pub mod WalkLaws
+pub mod FollowingLaws
+pub mod CallsLaws
 pub mod WindowOfLaws
 pub mod ExaminationLaws
 pub mod LoadLaws
-pub mod CallsFollow
-pub mod AddedBytes
-pub mod Packets
+pub mod CallsFollowLaws
+pub mod PacketsLaws
+pub mod AddedBytesLaws

@@ -1,9 +1,9 @@
--- Demand 3 in one piece, clause by clause. Each part names a statement that stands first in its own file; the proofs follow there.
-use Rattle.chain.specs.AddedBytes.{AddedBytes, added-bytes}
-use Rattle.chain.specs.CallsFollow.{CallsFollow, calls-follow}
-use Rattle.chain.specs.Packets.{EachOnce, ExactlyMatching, ReachesEnd, each-once, exactly-matching, reaches-end}
-use Rattle.validators.specs.VerdictsLaws.{Follows, follows}
-use Rattle.demand3.specs.MarkedCases.{AllAgree, marked, marked-agree}
+-- Demand 3 in one piece, clause by clause. Each part names a statement that stands in a file of its own.
+use Rattle.chain.specs.AddedBytes.{AddedBytes}
+use Rattle.chain.specs.CallsFollow.{CallsFollow}
+use Rattle.chain.specs.Packets.{EachOnce, ExactlyMatching, ReachesEnd}
+use Rattle.validators.specs.VerdictsLaws.{Follows}
+use Rattle.demand3.specs.MarkedCases.{AllAgree, marked}
 
 pub record Demand3 : Type 0 where
   -- D3.1: for any list of calls on windows of any recording, the complete replies are the chain's entries, cut into consecutive runs.
@@ -20,15 +20,3 @@ pub record Demand3 : Type 0 where
   pub verdicts : Follows
   -- D3.8: the definitions agree with the starred cases.
   pub cases : AllAgree marked
-
-pub demand-3 : Demand3
-demand-3 =
-    record {
-      calls = calls-follow;
-      exactly = exactly-matching;
-      each = each-once;
-      ends = reaches-end;
-      added = added-bytes;
-      verdicts = follows;
-      cases = marked-agree;
-    }

@@ -1,26 +1,27 @@
--- The statement on a small recording, computed: two packets of 64 bytes, and four calls on windows that meet the premises. The replies and the
--- chain are written out, so that a reader sees that they agree.
+-- An example, which no contract and no statement cites: D3.1 on a small recording, computed. There are two packets of 64 bytes, and four
+-- calls on windows that meet the premises. The replies and the chain are written out, so that a reader sees that they agree.
 use Prim.Native.Nat.{ℕ}
 use mathlib.Core.Bool.{Bool, true, false, false≢true}
 use mathlib.Core.Path.{_≡_, refl}
 use mathlib.Core.List.{List, [], _∷_, _++_}
 use native.Mathlib.Omega.{arith}
-use lib.ListN.{length, drop, take}
+use lib.ListN.{drop, take}
 use Rattle.basis.specs.Bytes.{bytesOf, little, numberAt}
 use Rattle.basis.specs.Refusals.{Answer, gives, refuses}
 use Rattle.serde_rdh.specs.Layout.{decoded, header, span}
-use Rattle.scan_cdp.specs.Answers.{Found, handed, wants}
+use Rattle.scan_cdp.specs.Answers.{Found, wants}
 use Rattle.scan_cdp.specs.Loads.{loaded, loadedFrom, together}
 use Rattle.scan_cdp.specs.Steps.{Entry, cut, ended, entryOf, initialOf, marksOf, newState, payloadOf, placeAfter, placesListed, progressAfter, raised, step, tallied, outcomeIn, unusable, usedListed}
 use Rattle.scan_cdp.specs.Outcomes.{filtered, skipped, outcomeOf}
 use Rattle.scan_cdp.specs.Windows.{bytesAt, examined, outside, partAt}
 use Rattle.stats.specs.Counts.{added}
 use Rattle.stats.specs.Lists.{full, member, placesAfter, twice, usedAfter}
-use Rattle.chain.specs.Calls.{Call, Reply, Window, WindowOf, Windows, along, replyAnswer, examines, loads, replies, replyTo}
-use Rattle.chain.specs.CallsFollow.{calls-follow}
+use Rattle.chain.specs.Calls.{Call, Reply, Window, Windows, along, replyAnswer, examines, loads, replies, replyTo}
+use Rattle.chain.specs.CallsFollowLaws.{calls-follow}
 use Rattle.chain.specs.Chain.{Kept, chain, chainOf}
 use Rattle.chain.specs.Following.{repliesOf}
-use Rattle.demand3.specs.MarkedCases.{plain, sample}
+use Rattle.demand3.specs.MarkedCasesLaws.{_then_}
+use Rattle.demand3.specs.MarkedCases.{givenAt, plain, sample}
 
 -- Two headers without payload, of two FEE ids.
 unfoldable pub recording : List ℕ
@@ -51,36 +52,26 @@ abbrev entryAnswers : List (Entry (List ℕ)) → List (Answer (Found (List ℕ)
 entryAnswers [] = []
 entryAnswers (e ∷ es) = e .answer ∷ entryAnswers es
 
-abbrev packet : ℕ → ℕ → Answer (Found (List ℕ))
-packet feeId position = gives (handed (record { header = decoded (sample feeId 64 0 0x4813); payload = []; position = record { 0 = position } }))
-
 -- A want, the two packets, and the end.
 pub calls-answer : answers (replies plain start calls)
-    ≡ gives (wants (record { 0 = 0 }) 64) ∷ packet 0x502A 0 ∷ packet 0x3006 64 ∷ refuses 1 [] ∷ []
+    ≡ gives (wants (record { 0 = 0 }) 64) ∷ givenAt 0 0x502A 64 ∷ givenAt 64 0x3006 64 ∷ refuses 1 [] ∷ []
 unfolding recording calls sample bytesOf numberAt little decoded header span repliesOf replyTo examined outside unusable twice member step entryOf marksOf tallied raised added initialOf outcomeIn outcomeOf filtered skipped full payloadOf cut placesListed placesAfter usedListed usedAfter progressAfter placeAfter ended loaded loadedFrom together bytesAt partAt
 calls-answer = refl
 
 -- The chain itself: the two packets, and the end.
-pub chain-answers : entryAnswers (chain recording plain start) ≡ packet 0x502A 0 ∷ packet 0x3006 64 ∷ refuses 1 [] ∷ []
+pub chain-answers : entryAnswers (chain recording plain start) ≡ givenAt 0 0x502A 64 ∷ givenAt 64 0x3006 64 ∷ refuses 1 [] ∷ []
 unfolding recording sample bytesOf numberAt little decoded header span chain chainOf unusable twice member step entryOf marksOf tallied raised added initialOf outcomeIn outcomeOf filtered skipped full payloadOf cut placesListed placesAfter usedListed usedAfter progressAfter placeAfter ended
 chain-answers = refl
 
 -- The windows are windows of the recording, so that the theorem speaks of these calls.
 pub windows : Windows recording calls
 unfolding calls recording sample bytesOf
-windows = (
-  record { bytes = refl; last = λ e. absurd (false≢true e) },
-  (
-    record { bytes = refl; last = λ e. absurd (false≢true e) },
-    (
-      record { bytes = refl; last = λ e. omega arith },
-      (
-        record { bytes = refl; last = λ e. omega arith },
-        tt,
-      ),
-    ),
-  ),
-)
+windows =
+    record { bytes = refl; last = λ e. absurd (false≢true e) }
+    then record { bytes = refl; last = λ e. absurd (false≢true e) }
+    then record { bytes = refl; last = λ e. omega arith }
+    then record { bytes = refl; last = λ e. omega arith }
+    then tt
 
 pub calls-follow-here : replies plain start calls ≡ along plain start calls (chain recording plain start)
 calls-follow-here = calls-follow recording plain start calls windows

@@ -1,26 +1,21 @@
--- The starred cases (E1 to E7) as one list of inputs and expected replies, and the theorem that the definitions agree with the list (D3.8).
+-- The starred cases (E1 to E7) as one list of inputs and expected replies, and the statement that the definitions agree with the list (D3.8).
 use Prim.Native.Nat.{ℕ}
 use mathlib.Core.Bool.{Bool, true, false}
-use mathlib.Core.Path.{_≡_, refl}
+use mathlib.Core.Path.{_≡_}
 use mathlib.Core.List.{List, [], _∷_, _++_}
 use lib.IntN.{pos, negsuc}
 use lib.ListN.{replicate}
-use Rattle.basis.specs.Bytes.{bytesOf, little, numberAt}
+use Rattle.basis.specs.Bytes.{bytesOf}
 use Rattle.basis.specs.Refusals.{Answer, gives, refuses}
 use Rattle.filter.specs.Filter.{matches}
 use Rattle.filter.specs.declared.FilterTarget.the-variants.{ItsLayerStave}
 use Rattle.filter.specs.declared.Option8.the-variants as Option8
 use Rattle.filter.specs.declared.Option16.the-variants as Option16
-use Rattle.filter.specs.FilterLaws.{other-uplink-taken}
 use Rattle.its_names.specs.StaveNames.{Answered}
-use Rattle.its_names.specs.StaveNameLaws.{L9-70-given}
 use Rattle.rdh.specs.Subfields.{layerOf, staveOf}
-use Rattle.serde_rdh.specs.Layout.{decoded, header, span}
-use Rattle.sanity.specs.Tests.{allTests, anyFails, cruTests, feeIdTests, rdh0Tests, rdh1Tests, rdh2Tests, rdh3Tests, sound}
+use Rattle.serde_rdh.specs.Layout.{decoded, header}
 use Rattle.scan_cdp.specs.Answers.{Found, handed}
-use Rattle.scan_cdp.specs.Steps.{cut, entryOf, newState, payloadOf, step, stepIn, outcomeIn, unusable}
-use Rattle.scan_cdp.specs.Outcomes.{filtered, skipped, outcomeOf}
-use Rattle.stats.specs.Lists.{full, member, twice}
+use Rattle.scan_cdp.specs.Steps.{newState, stepIn}
 use Rattle.scan_cdp.specs.declared.Settings.{Settings}
 use Rattle.text.specs.Ascii.{ascii}
 use Rattle.validators.specs.Verdict.{soundTo}
@@ -57,11 +52,15 @@ pub data Case : Type 0 where
   -- a stave name: what its call answers
   name : (text : List ℕ) → Answer ℕ → Case
 
--- A packet with no payload, at position 0.
-abbrev given : ℕ → Answer (Found (List ℕ))
-given n = gives (handed (record { header = decoded (sample 0x502A n 0 0x4813); payload = []; position = record { 0 = 0 } }))
+-- A packet with no payload, whose load started at a position.
+abbrev pub givenAt : (position feeId n : ℕ) → Answer (Found (List ℕ))
+givenAt position feeId n =
+    gives (handed (record { header = decoded (sample feeId n 0 0x4813); payload = []; position = record { 0 = position } }))
 
-pub marked : List Case
+abbrev given : ℕ → Answer (Found (List ℕ))
+given = givenAt 0 0x502A
+
+unfoldable pub marked : List Case
 marked =
     -- E1: the offset, with the value that refusal 2 returns
     offset 63 (refuses 2 (negsuc 0 ∷ pos 0 ∷ []))
@@ -94,47 +93,3 @@ Agrees (name text reply) = (answer : Answer ℕ) → Answered text answer → an
 abbrev pub AllAgree : List Case → Type 0
 AllAgree [] = Unit {0}
 AllAgree (c ∷ cs) = Agrees c × AllAgree cs
-
--- One theorem: the definitions agree with the list.
-pub marked-agree : AllAgree marked
-unfolding marked sample bytesOf numberAt little decoded header span step unusable entryOf outcomeIn outcomeOf filtered skipped full member twice payloadOf cut soundTo sound allTests feeIdTests rdh0Tests rdh1Tests rdh2Tests rdh3Tests cruTests anyFails
-marked-agree = (
-  refl,
-  (
-    refl,
-    (
-      refl,
-      (
-        refl,
-        (
-          refl,
-          (
-            refl,
-            (
-              refl,
-              (
-                refl,
-                (
-                  refl,
-                  (
-                    (refl, refl),
-                    (
-                      refl,
-                      (
-                        other-uplink-taken,
-                        (
-                          L9-70-given,
-                          tt,
-                        ),
-                      ),
-                    ),
-                  ),
-                ),
-              ),
-            ),
-          ),
-        ),
-      ),
-    ),
-  ),
-)

@@ -40,7 +40,7 @@ abbrev pub located : ℕ → Entry (List ℕ) → Entry Part
 located start = entryAs (λ (payload : List ℕ). partAt start (length payload))
 
 -- A want for so many bytes from the byte place on, which changes nothing (W6).
-abbrev pub wanting : State → List ℕ → ℕ → Entry Part
+abbrev pub wanting : {P : Type 0} → State → List ℕ → ℕ → Entry P
 wanting s feeIds size = unchanged s feeIds (gives (wants (s .progress .place) size))
 
 -- What is replied where the step finds a header (W7): on a window that is not last a want, if the step would find the payload cut; and else

@@ -1,5 +1,8 @@
 pub mod Runs
+pub mod OutcomeLaws
+pub mod Elsewhere
+pub mod RowLaws
+pub mod WindowLaws
 pub mod StepLaws
 pub mod RunLaws
-pub mod WindowLaws
 pub mod LoadTurnLaws

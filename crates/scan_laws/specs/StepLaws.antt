@@ -1,88 +1,36 @@
--- Laws of one examination: what holds of the outcome, of a state that refusal 6 lets through, and of what an examination leaves.
+-- Laws of one examination: what holds of a state that refusal 6 lets through, and of what an examination leaves.
 use Prim.Native.Nat.{ℕ, _+_, _-_, _<_, _≤_}
 use mathlib.Core.Bool.{Bool, true, false, not, _||_, _&&_, false≢true, true≢false}
 use mathlib.Core.List.{List, []}
-use mathlib.Core.Path.{_≡_, refl, ap, subst, subst₂, sym, _∙_}
+use mathlib.Core.Path.{_≡_, refl, ap, subst, sym, _∙_}
 use native.Mathlib.Omega.{arith}
-use borrow.Author.Tests.{eqb-false, ltb-false, ltb-true}
+use borrow.Author.Tests.{eqb-false, lt-ltb, ltb-false, ltb-true, ne-eqb, not-true}
 use lib.Dec.{ltb}
+use lib.IntN.{ℤ}
 use lib.ListN.{length, take, length-drop}
-use Rattle.basis.specs.Pick.{by-test, neither, off, on, pick}
+use Rattle.basis.specs.Pick.{by-test, neither, on, pick}
 use Rattle.basis.specs.Refusals.{Answer, gives, refuses}
 use Rattle.rdh.specs.declared.rdh_cru.RdhCru.{RdhCru}
 use Rattle.serde_rdh.specs.Layout.{decoded}
 use Rattle.stats.specs.Counts.{fullCount}
 use Rattle.stats.specs.Lists.{twice}
 use Rattle.stats.specs.ListsLaws.{length-places, once-kept, used-kept}
-use Rattle.scan_cdp.specs.Answers.{Found}
+use Rattle.scan_cdp.specs.Answers.{Found, Handed, handed, passed}
 use Rattle.scan_cdp.specs.Loads.{isPassed}
+use Rattle.scan_laws.specs.OutcomeLaws.{GoodOffset, Known, NotTaken, Taken, known-here}
+use Rattle.scan_laws.specs.RowLaws.{RefusedNumber, answer-as, answer-cases, both, place-moves}
 use Rattle.scan_laws.specs.Runs.{closes, isRefusal, isWant}
 use Rattle.scan_laws.specs.WindowLaws.{examined-header, examined-short, refused-6}
-use Rattle.scan_cdp.specs.Steps.{Entry, answerIn, cut, ended, entryAt, entryOf, limit, noMarks, placeAfter, placesListed, progressAfter}
-use Rattle.scan_cdp.specs.Steps.{step, outcomeIn, unchanged, unusable, usedListed}
-use Rattle.scan_cdp.specs.Outcomes.{badOffset, feeId, filtered, isMatch, memorySize, offset, payloadSize, skipped, outcomeOf}
+use Rattle.scan_cdp.specs.Steps.{Entry, answerIn, ended, entryAt, entryOf, limit, noMarks, placeAfter, placesListed, progressAfter}
+use Rattle.scan_cdp.specs.Steps.{payloadOf, startOf, step, outcomeIn, unchanged, unusable, usedListed}
+use Rattle.scan_cdp.specs.Outcomes.{feeId, offset, payloadSize}
 use Rattle.scan_cdp.specs.Windows.{examined, located, outside, placed, shown, wanting}
 use Rattle.scan_cdp.specs.declared.Part.{Part}
 use Rattle.scan_cdp.specs.declared.Position.{Position}
 use Rattle.scan_cdp.specs.declared.Settings.{Settings}
 use Rattle.scan_cdp.specs.declared.State.{State}
 use Rattle.scan_cdp.specs.declared.Outcome.{Outcome}
-use Rattle.scan_cdp.specs.declared.Outcome.the-variants.{FeeIdsFull, BadOffset, MemorySize, NegativeSkip, Passed, HandedOut}
-
--- ---- the outcome
-
--- An offset that refusal 2 lets through.
-pub record GoodOffset (h : RdhCru) : Type 0 where
-  pub least : 64 ≤ offset h
-  pub most : offset h ≤ 10064
-
-good-offset : (h : RdhCru) → badOffset (offset h) ≡ false → GoodOffset h
-good-offset h e =
-    let (least, most) = neither (ltb (offset h) 64) (ltb 10064 (offset h)) e in
-    record { least = ltb-false (offset h) 64 least; most = ltb-false 10064 (offset h) most }
-
--- What is known of a header by its outcome.
-abbrev pub Known : RdhCru → Outcome → Type 0
-Known h FeeIdsFull = Unit {0}
-Known h BadOffset = Unit {0}
-Known h MemorySize = GoodOffset h
-Known h NegativeSkip = ⊥
-Known h Passed = GoodOffset h
-Known h HandedOut = GoodOffset h × 64 ≤ memorySize h
-
-skipped-known : (h : RdhCru) (t : Outcome) → GoodOffset h → Known h t → Known h (skipped (offset h) t)
-unfolding skipped
-skipped-known h t good k =
-    by-test (Known h) (ltb (offset h) 64) NegativeSkip t (λ e. omega (arith, ltb-true (offset h) 64 e, good .least)) (λ e. k)
-
-filtered-known : (set : Settings) (h : RdhCru) → GoodOffset h → Known h (filtered set h)
-unfolding filtered
-filtered-known set h good =
-    by-test (Known h) (isMatch set h) _ _
-    (λ taken.
-    by-test (Known h) (ltb (memorySize h) 64) _ _ (λ small. good) (λ large.
-    let both : GoodOffset h × 64 ≤ memorySize h = (good, ltb-false (memorySize h) 64 large) in
-    by-test (Known h) (set .«skip_payload») _ _ (λ skip. skipped-known h HandedOut good both) (λ read. both)))
-    (λ other. skipped-known h Passed good good)
-
-pub outcome-known : (set : Settings) (first full : Bool) (h : RdhCru) → Known h (outcomeOf set first full h)
-unfolding outcomeOf
-outcome-known set first full h =
-    let good : badOffset (offset h) ≡ false → Known h (filtered set h) = λ e. filtered-known set h (good-offset h e) in
-    by-test (Known h) first _ _
-    (λ one. by-test (Known h) full _ _ (λ e. tt) (λ e. by-test (Known h) (badOffset (offset h)) _ _ (λ bad. tt) good))
-    (λ later. by-test (Known h) (badOffset (offset h)) _ _ (λ bad. tt) (λ fine. by-test (Known h) full _ _ (λ e. tt) (λ e. good fine)))
-
--- Refusal 5 is never due: what is skipped has an offset that refusal 2 let through.
-pub never-negative : (set : Settings) (first full : Bool) (h : RdhCru) → outcomeOf set first full h ≡ NegativeSkip → ⊥
-never-negative set first full h e = subst (Known h) e (outcome-known set first full h)
-
-pub passed-offset : (set : Settings) (first full : Bool) (h : RdhCru) → outcomeOf set first full h ≡ Passed → GoodOffset h
-passed-offset set first full h e = subst (Known h) e (outcome-known set first full h)
-
-pub handed-out-sizes : (set : Settings) (first full : Bool) (h : RdhCru) → outcomeOf set first full h ≡ HandedOut
-    → GoodOffset h × 64 ≤ memorySize h
-handed-out-sizes set first full h e = subst (Known h) e (outcome-known set first full h)
+use Rattle.scan_cdp.specs.declared.Outcome.the-variants.{Passed}
 
 -- ---- a state and a list that refusal 6 lets through
 
@@ -129,9 +77,37 @@ pub record Admitted (s : State) (feeIds w : List ℕ) (first : ℕ) : Type 0 whe
 abbrev pub shownTo : State → (w : List ℕ) → (first : ℕ) → List ℕ
 shownTo s w first = shown (s .progress .place .0) first w
 
-wanted : (last cuts : Bool) → (not last && cuts) ≡ true → (last ≡ false) × (cuts ≡ true)
-wanted true cuts e = absurd (false≢true e)
-wanted false cuts e = (refl, e)
+-- A header is refused with 2, 3 or 4, passed or handed out: what holds in these three cases holds of what its entry answers.
+pub entry-cases : (set : Settings) (s : State) (feeIds rest : List ℕ) (end : ℕ) (P : Answer (Found (List ℕ)) → Type 0)
+    → ((number : ℕ) (values : List ℤ) → RefusedNumber number → P (refuses number values))
+    → (NotTaken set (decoded rest) → P (gives passed))
+    → ((p : Handed (List ℕ)) → p .header ≡ decoded rest → Taken set (decoded rest) → P (gives (handed p)))
+    → P (entryAt set s feeIds rest end .answer)
+unfolding entryOf
+entry-cases set s feeIds rest end P refused passes hands =
+    let p = s .progress in
+    let h = decoded rest in
+    let t = outcomeIn set p feeIds h in
+    answer-cases set t h (startOf (p .load) (p .position)) (p .position)
+    (λ u a. P (a (payloadOf (set .«skip_payload») t h rest))) (known-here set s feeIds h)
+    (λ number values r kept. refused number values r) passes (hands _ refl)
+
+pub step-six : (set : Settings) (s : State) (feeIds rest : List ℕ) (end : ℕ) → unusable s feeIds ≡ true
+    → step set s feeIds rest end ≡ unchanged s feeIds (refuses 6 [])
+unfolding step
+step-six set s feeIds rest end six = on _ _ six
+
+-- What holds of the entry in each of three cases holds of the step.
+pub step-cases : (set : Settings) (s : State) (feeIds rest : List ℕ) (end : ℕ) (P : Entry (List ℕ) → Type 0)
+    → (unusable s feeIds ≡ true → P (unchanged s feeIds (refuses 6 [])))
+    → (unusable s feeIds ≡ false → length rest < 64 → P (ended s feeIds end))
+    → (unusable s feeIds ≡ false → 64 ≤ length rest → P (entryAt set s feeIds rest end))
+    → P (step set s feeIds rest end)
+unfolding step
+step-cases set s feeIds rest end P six ends enters =
+    by-test P (unusable s feeIds) _ _ six (λ usable.
+    by-test P (ltb (length rest) 64) _ _
+    (λ short. ends usable (ltb-true (length rest) 64 short)) (λ long. enters usable (ltb-false (length rest) 64 long)))
 
 -- What holds of the entry in each of five cases holds of the examination.
 pub examined-cases : (set : Settings) (s : State) (feeIds w : List ℕ) (first : ℕ) (last : Bool) (P : Entry Part → Type 0)
@@ -166,7 +142,7 @@ examined-cases set s feeIds w first last P six short ends cuts enters = by-6 (un
         let above = ltb-false (length rest) 64 e in
         subst P (sym (examined-header set s feeIds w first last (a .state) (a .window) above))
         (by-test P (not last && entry .marks .«payload_cut») _ _
-        (λ lacks. let (more, cut-off) = wanted last (entry .marks .«payload_cut») lacks in cuts a above more cut-off)
+        (λ lacks. let (more, cut-off) = both (not last) (entry .marks .«payload_cut») lacks in cuts a above (not-true last more) cut-off)
         (enters a above))
 
     by-6 : (b : Bool) → (unusable s feeIds || outside place first (length w)) ≡ b → P (examined set s feeIds w first last)
@@ -259,24 +235,12 @@ is-shown s feeIds w first a h =
     let begins = ltb-false place first starts in
     record { starts = begins; ends = omega (arith, begins, h, length-drop (place - first) w) }
 
-pub known-here : (set : Settings) (s : State) (feeIds : List ℕ) (h : RdhCru) → Known h (outcomeIn set (s .progress) feeIds h)
-unfolding outcomeIn
-known-here set s feeIds h = outcome-known set _ _ h
-
--- an answer that a header was passed has that outcome
-only-passed : (t : Outcome) (h : RdhCru) (payload : List ℕ) (from position : Position) (start : ℕ)
-    → isPassed (placed start (answerIn t h payload from position)) ≡ true → t ≡ Passed
-only-passed FeeIdsFull h payload from position start e = absurd (false≢true e)
-only-passed BadOffset h payload from position start e = absurd (false≢true e)
-only-passed MemorySize h payload from position start e = absurd (false≢true e)
-only-passed NegativeSkip h payload from position start e = absurd (false≢true e)
-only-passed Passed h payload from position start e = refl
-only-passed HandedOut h payload from position start e = absurd (false≢true e)
-
-place-passed : (skip : Bool) (t : Outcome) (h : RdhCru) (place left end : ℕ) → t ≡ Passed
-    → placeAfter skip t h place left end ≡ place + offset h
-unfolding placeAfter
-place-passed skip t h place left end e = ap (λ (u : Outcome). placeAfter skip u h place left end) e
+-- only a passed header is answered with that
+only-passed : {P : Type 0} (set : Settings) (t : Outcome) (h : RdhCru) (payload : P) (from position : Position) → Known set h t
+    → isPassed (answerIn t h payload from position) ≡ true → t ≡ Passed
+only-passed set t h payload from position k =
+    answer-cases set t h from position (λ u a. isPassed (a payload) ≡ true → u ≡ Passed) k
+    (λ number values r kept e. absurd (false≢true e)) (λ other e. refl) (λ taken e. absurd (false≢true e))
 
 -- What an examination that passed a header found, and what it left.
 pub record PassedOn (s : State) (feeIds w : List ℕ) (first : ℕ) (e : Entry Part) : Type 0 where
@@ -295,15 +259,17 @@ entry-passed : (set : Settings) (s : State) (feeIds w : List ℕ) (first : ℕ) 
     → 64 ≤ length (shownTo s w first)
     → isPassed (located start (entryAt set s feeIds (shownTo s w first) (first + length w)) .answer) ≡ true
     → PassedOn s feeIds w first (located start (entryAt set s feeIds (shownTo s w first) (first + length w)))
-unfolding entryOf progressAfter
+unfolding entryOf progressAfter placeAfter
 entry-passed set s feeIds w first start a long e =
     let p = s .progress in
     let rest = shownTo s w first in
     let h = decoded rest in
     let t = outcomeIn set p feeIds h in
-    let is : t ≡ Passed = only-passed t h _ _ _ start e in
-    let good : GoodOffset h = subst (Known h) is (known-here set s feeIds h) in
-    let place = place-passed (set .«skip_payload») t h (p .place .0) (length rest) (first + length w) is in
+    let known = known-here set s feeIds h in
+    let is : t ≡ Passed = only-passed set t h _ _ _ known (ap isPassed (sym (answer-as _ t h _ _ _)) ∙ e) in
+    let good : GoodOffset h = subst (Known set h) is known .good in
+    let place : placeAfter (set .«skip_payload») t h (p .place .0) (length rest) (first + length w) ≡ p .place .0 + offset h =
+    ap (λ (u : Outcome). placeAfter (set .«skip_payload») u h (p .place .0) (length rest) (first + length w)) is in
     let shows = is-shown s feeIds w first a long in
     let order = entry-in-order set s feeIds rest (first + length w) start (usable s feeIds (a .state)) in
     record {
@@ -330,19 +296,6 @@ examined-passed set s feeIds w first last =
     (λ a long more cuts e. absurd (false≢true e))
     (λ a long whole e. entry-passed set s feeIds w first (s .progress .place .0 + 64 - first) a long e)
 
-pub place-moves : (skip : Bool) (t : Outcome) (h : RdhCru) (place left end : ℕ) → Known h t → place + 64 ≤ end
-    → place + 64 ≤ placeAfter skip t h place left end
-unfolding placeAfter
-place-moves skip FeeIdsFull h place left end k ends = omega arith
-place-moves skip BadOffset h place left end k ends = omega arith
-place-moves skip MemorySize h place left end k ends = omega arith
-place-moves skip NegativeSkip h place left end k ends = omega arith
-place-moves skip Passed h place left end k ends = omega (arith, k .least)
-place-moves skip HandedOut h place left end k ends =
-    by-test (λ (n : ℕ). place + 64 ≤ n) skip _ _
-    (λ e. omega (arith, k .0 .least))
-    (λ e. by-test (λ (n : ℕ). place + 64 ≤ n) (cut skip HandedOut h left) _ _ (λ c. ends) (λ c. omega (arith, k .1)))
-
 -- What an examination that moved the byte place found, and how far it moved it. No bound above is stated: an offset or a memory size may
 -- lead past the window's end.
 pub record MovedOn (s : State) (w : List ℕ) (first : ℕ) (e : Entry Part) : Type 0 where
@@ -359,7 +312,7 @@ entry-moves set s feeIds w first start a long =
     let rest = shownTo s w first in
     let h = decoded rest in
     let shows = is-shown s feeIds w first a long in
-    let moved = place-moves (set .«skip_payload») _ h place (length rest) (first + length w) (known-here set s feeIds h) (shows .ends) in
+    let moved = place-moves set _ h place (length rest) (first + length w) (known-here set s feeIds h) (shows .ends) in
     record { starts = shows .starts; ends = shows .ends; least = moved }
 
 -- All but a want and the end (1 or 6) move on.
@@ -385,27 +338,24 @@ pub record Wanted (s : State) (feeIds : List ℕ) (last : Bool) (e : Entry Part)
   pub same-fee-ids : e .feeIds ≡ feeIds
   pub no-marks : e .marks ≡ noMarks
 
--- What no header is answered with: a want, refusal 1 and refusal 5.
+-- What no header is answered with: a want, and refusals 1 and 5.
 record OfHeader (answer : Answer (Found Part)) : Type 0 where
   no-want : isWant answer ≡ false
   no-end : isRefusal 1 answer ≡ false
   no-skip : isRefusal 5 answer ≡ false
 
-of-header : (t : Outcome) (h : RdhCru) (payload : List ℕ) (from position : Position) (start : ℕ) → Known h t
-    → OfHeader (placed start (answerIn t h payload from position))
-of-header FeeIdsFull h payload from position start k = record { no-want = refl; no-end = refl; no-skip = refl }
-of-header BadOffset h payload from position start k = record { no-want = refl; no-end = refl; no-skip = refl }
-of-header MemorySize h payload from position start k = record { no-want = refl; no-end = refl; no-skip = refl }
-of-header NegativeSkip h payload from position start k = absurd k
-of-header Passed h payload from position start k = record { no-want = refl; no-end = refl; no-skip = refl }
-of-header HandedOut h payload from position start k = record { no-want = refl; no-end = refl; no-skip = refl }
-
 entry-answers : (set : Settings) (s : State) (feeIds rest : List ℕ) (end start : ℕ)
     → OfHeader (located start (entryAt set s feeIds rest end) .answer)
-unfolding entryOf
 entry-answers set s feeIds rest end start =
-    let h = decoded rest in
-    of-header (outcomeIn set (s .progress) feeIds h) h _ _ _ start (known-here set s feeIds h)
+    entry-cases set s feeIds rest end (λ a. OfHeader (placed start a))
+    (λ number values r.
+    record {
+      no-want = refl;
+      no-end = ne-eqb number 1 (λ e. omega (arith, r .least, e));
+      no-skip = ne-eqb number 5 (λ e. omega (arith, r .most, e));
+    })
+    (λ other. record { no-want = refl; no-end = refl; no-skip = refl })
+    (λ p same taken. record { no-want = refl; no-end = refl; no-skip = refl })
 
 pub examined-wants : (set : Settings) (s : State) (feeIds w : List ℕ) (first : ℕ) (last : Bool)
     → isWant (examined set s feeIds w first last .answer) ≡ true → Wanted s feeIds last (examined set s feeIds w first last)

@@ -1,0 +1,65 @@
+-- Laws of a single call: what holds it back, and what ends the chain.
+use Prim.Native.Nat.{ℕ}
+use mathlib.Core.Bool.{Bool, false, not, _||_}
+use mathlib.Core.Path.{_≡_, refl, ap}
+use mathlib.Core.List.{List, []}
+use native.Mathlib.Omega.{arith}
+use borrow.Author.Tests.{ne-eqb}
+use lib.Dec.{ltb}
+use lib.ListN.{length, drop}
+use Rattle.basis.specs.Pick.{by-test}
+use Rattle.basis.specs.Refusals.{gives, refuses}
+use Rattle.scan_cdp.specs.Answers.{wants}
+use Rattle.scan_cdp.specs.Loads.{isPassed}
+use Rattle.scan_cdp.specs.Steps.{Entry, ended, unchanged, unusable, entryAt}
+use Rattle.scan_cdp.specs.Windows.{outside, shown}
+use Rattle.scan_cdp.specs.declared.Settings.{Settings}
+use Rattle.scan_laws.specs.StepLaws.{entry-cases, step-cases}
+use Rattle.chain.specs.Calls.{Hold, Window, endsChain, examination, free, held, heldBack, needed}
+use Rattle.chain.specs.Chain.{Kept, isRefused, next, placeOf}
+
+-- ---- what holds a call back
+
+-- A call is free, or held back by a 6 of the window, which state and list do not meet, or by a want: what holds in these cases holds always.
+pub held-cases : (set : Settings) (k : Kept) (w : Window) (e : Entry (List ℕ)) (P : Hold → Type 0)
+    → P free
+    → (unusable (k .state) (k .feeIds) ≡ false → P (held (refuses 6 [])))
+    → ((size : ℕ) → P (held (gives (wants (k .state .progress .place) size))))
+    → P (heldBack set k w e)
+unfolding heldBack
+held-cases set k w e P is-free six wanted =
+    let place = k .state .progress .place in
+    let size = length (shown (place .0) (w .first) (w .bytes)) in
+    let need = needed (set .«skip_payload») (e .answer) in
+    by-test P (unusable (k .state) (k .feeIds)) _ _ (λ own. is-free) (λ usable.
+    by-test P (outside (place .0) (w .first) (length (w .bytes))) _ _ (λ out. six usable) (λ inside.
+    by-test P (w .last) _ _ (λ last. is-free) (λ more.
+    by-test P (ltb size 64) _ _ (λ short. wanted 64) (λ long.
+    by-test P (ltb size need) _ _ (λ lacks. wanted need) (λ enough. is-free)))))
+
+-- What holds a call back is no passed header and does not end the chain.
+abbrev pub HeldFine : Kept → Hold → Type 0
+HeldFine k free = Unit {0}
+HeldFine k (held a) = (isPassed a ≡ false) × (endsChain (examination (unchanged (k .state) (k .feeIds) a)) ≡ false)
+
+pub held-fine : (set : Settings) (k : Kept) (w : Window) (e : Entry (List ℕ)) → HeldFine k (heldBack set k w e)
+held-fine set k w e = held-cases set k w e (HeldFine k) tt (λ usable. (refl, usable)) (λ size. (refl, refl))
+
+-- ---- what ends the chain
+
+-- Every refused entry of the chain ends it: a 6 among them is met by state and list alone, which it leaves as they were.
+pub entry-ends : (recording : List ℕ) (set : Settings) (k : Kept)
+    → endsChain (examination (next recording set k)) ≡ isRefused (next recording set k .answer)
+unfolding ended
+entry-ends recording set k =
+    let rest = drop (placeOf k) recording in
+    let e = entryAt set (k .state) (k .feeIds) rest (length recording) in
+    step-cases set (k .state) (k .feeIds) rest (length recording) (λ x. endsChain (examination x) ≡ isRefused (x .answer))
+    (λ six. six)
+    (λ usable short. refl)
+    (λ usable whole.
+    entry-cases set (k .state) (k .feeIds) rest (length recording)
+    (λ a. endsChain (examination (record { answer = a; marks = e .marks; state = e .state; feeIds = e .feeIds })) ≡ isRefused a)
+    (λ number values r.
+    ap (λ (b : Bool). not b || unusable (e .state) (e .feeIds)) (ne-eqb number 6 (λ is. omega (arith, r .most, is))))
+    (λ other. refl) (λ p same taken. refl))

@@ -1,0 +1,197 @@
+-- Proofs of the statements on packets: what a call is served hands out the packets of the entries that it takes, and each entry of the chain
+-- tells whether the header there matches.
+use Prim.Native.Nat.{ℕ, _≤_}
+use mathlib.Core.Bool.{true, false, not, _&&_, false≢true, true≢false}
+use mathlib.Core.Path.{_≡_, refl, ap, sym, _∙_}
+use mathlib.Core.List.{List, [], _∷_, _++_, append-assoc, flatMap}
+use native.Mathlib.Omega.{arith}
+use borrow.Author.Tests.{not-true}
+use lib.ListN.{length, drop}
+use Rattle.basis.specs.Pick.{by-test, off, on, pick}
+use Rattle.basis.specs.Refusals.{Answer, gives, refuses}
+use Rattle.rdh.specs.declared.rdh_cru.RdhCru.{RdhCru}
+use Rattle.scan_cdp.specs.Answers.{Found, handed, passed, wants}
+use Rattle.scan_cdp.specs.Loads.{isPassed, noLoadMarks, together}
+use Rattle.scan_cdp.specs.Steps.{Entry, ended, unchanged}
+use Rattle.scan_cdp.specs.Outcomes.{isMatch}
+use Rattle.scan_cdp.specs.declared.LoadMarks.{LoadMarks}
+use Rattle.scan_cdp.specs.declared.Settings.{Settings}
+use Rattle.scan_laws.specs.RowLaws.{both}
+use Rattle.scan_laws.specs.StepLaws.{entry-cases, step-cases}
+use Rattle.chain.specs.Calls.{Call, Hold, Reply, Served, Window, along, replyAnswer, examination, examinedBy, examines, free, held, heldBack, keptBy, loadAlong, loadedBy, loads, servedBy, toCome}
+use Rattle.chain.specs.CallsLaws.{held-cases}
+use Rattle.chain.specs.Chain.{Kept, chain, isRefused, left, next, placeOf}
+use Rattle.chain.specs.CallsFollowLaws.{calls-follow}
+use Rattle.chain.specs.Following.{cutInto, leftOver}
+use Rattle.chain.specs.PacketLists.{Packet, headersOf, isHeld, matchIn, matching, noneHeld, packetIn, packetsIn, packetsOf}
+use Rattle.chain.specs.Packets.{EachOnce, ExactlyMatching, ReachesEnd}
+use Rattle.chain.specs.Walk.{headerAt}
+use Rattle.chain.specs.WalkLaws.{entries-collected, same-collected}
+
+-- ---- each once
+
+-- What holds a call back hands out no packet, and is told from the reply.
+abbrev Quiet : Kept → Hold → Type 0
+Quiet k free = Unit {0}
+Quiet k (held a) = (packetIn a ≡ []) × (isHeld (examination (unchanged (k .state) (k .feeIds) a)) ≡ true)
+
+quiet : (set : Settings) (k : Kept) (w : Window) (e : Entry (List ℕ)) → Quiet k (heldBack set k w e)
+quiet set k w e = held-cases set k w e (Quiet k) tt (λ usable. (refl, ap not usable)) (λ size. (refl, refl))
+
+passed-none : (a : Answer (Found (List ℕ))) → isPassed a ≡ true → packetIn a ≡ []
+passed-none (gives passed) e = refl
+passed-none (gives (handed p)) e = absurd (false≢true e)
+passed-none (gives (wants place size)) e = absurd (false≢true e)
+passed-none (refuses number values) e = absurd (false≢true e)
+
+-- what a call is served hands out the packets that its entries have
+abbrev packetsAfter : Served → List Packet
+packetsAfter o = packetIn (replyAnswer (o .reply)) ++ packetsIn (o .rest)
+
+examined-packets : (k : Kept) (e : Entry (List ℕ)) (es : List (Entry (List ℕ))) (h : Hold) → Quiet k h
+    → packetsAfter (examinedBy k e es h) ≡ packetsIn (e ∷ es)
+unfolding flatMap
+examined-packets k e es free fine = refl
+examined-packets k e es (held a) (none, told) = ap (λ (ps : List Packet). ps ++ (packetIn (e .answer) ++ packetsIn es)) none
+
+load-packets : (set : Settings) (w : Window) (es : List (Entry (List ℕ))) (ms : LoadMarks) (k : Kept)
+    → packetsAfter (loadAlong set w ms k es) ≡ packetsIn es
+unfolding loadAlong flatMap
+load-packets set w [] ms k = refl
+load-packets set w (e ∷ es) ms k =
+    by-held (heldBack set k w e) (quiet set k w e) (load-packets set w es (together ms (e .marks)) (left e))
+  where
+    by-held : (h : Hold) → Quiet k h → packetsAfter (loadAlong set w (together ms (e .marks)) (left e) es) ≡ packetsIn es
+        → packetsAfter (loadedBy ms k e es (loadAlong set w (together ms (e .marks)) (left e) es) h) ≡ packetIn (e .answer) ++ packetsIn es
+    by-held free fine onward =
+        by-test (λ (o : Served). packetsAfter o ≡ packetIn (e .answer) ++ packetsIn es) (isPassed (e .answer)) _ _
+        (λ passes. onward ∙ sym (ap (λ (ps : List Packet). ps ++ packetsIn es) (passed-none (e .answer) passes)))
+        (λ stops. refl)
+    by-held (held a) (none, told) onward = ap (λ (ps : List Packet). ps ++ (packetIn (e .answer) ++ packetsIn es)) none
+
+served-packets : (set : Settings) (k : Kept) (c : Call) (e : Entry (List ℕ)) (es : List (Entry (List ℕ)))
+    → packetsAfter (servedBy set k c e es) ≡ packetsIn (e ∷ es)
+unfolding servedBy
+served-packets set k (examines w) e es = examined-packets k e es (heldBack set k w e) (quiet set k w e)
+served-packets set k (loads w) e es = load-packets set w (e ∷ es) noLoadMarks k
+
+along-packets : (set : Settings) (k : Kept) (calls : List Call) (es : List (Entry (List ℕ)))
+    → packetsOf (along set k calls es) ++ packetsIn (toCome set k calls es) ≡ packetsIn es
+unfolding cutInto leftOver flatMap
+along-packets set k [] es = refl
+along-packets set k (c ∷ cs) [] = refl
+along-packets set k (c ∷ cs) (e ∷ es) =
+    let o = servedBy set k c e es in
+    append-assoc (packetIn (replyAnswer (o .reply))) (packetsOf (along set (keptBy (o .reply)) cs (o .rest)))
+    (packetsIn (toCome set (keptBy (o .reply)) cs (o .rest)))
+    ∙ ap (λ (ps : List Packet). packetIn (replyAnswer (o .reply)) ++ ps) (along-packets set (keptBy (o .reply)) cs (o .rest))
+    ∙ served-packets set k c e es
+
+pub each-once : EachOnce
+each-once recording set start calls windows =
+    ap (λ (rs : List Reply). packetsOf rs ++ packetsIn (toCome set start calls (chain recording set start)))
+    (calls-follow recording set start calls windows)
+    ∙ along-packets set start calls (chain recording set start)
+
+-- ---- exactly the matching headers
+
+-- what an answer says of the header at the place
+abbrev Tells : Settings → RdhCru → Answer (Found (List ℕ)) → Type 0
+Tells set h (gives passed) = isMatch set h ≡ false
+Tells set h (gives (handed p)) = (p .header ≡ h) × (isMatch set h ≡ true)
+Tells set h (gives (wants place size)) = ⊥
+Tells set h (refuses number values) = Unit {0}
+
+next-tells : (recording : List ℕ) (set : Settings) (k : Kept) → Tells set (headerAt recording k) (next recording set k .answer)
+unfolding ended
+next-tells recording set k =
+    let rest = drop (placeOf k) recording in
+    step-cases set (k .state) (k .feeIds) rest (length recording) (λ e. Tells set (headerAt recording k) (e .answer))
+    (λ six. tt) (λ usable short. tt) (λ usable whole.
+    entry-cases set (k .state) (k .feeIds) rest (length recording) (Tells set (headerAt recording k))
+    (λ number values r. tt) (λ other. other .other) (λ p same taken. (same, taken .taken)))
+
+-- the header that an answer hands out is the one that is due
+header-told : (set : Settings) (h : RdhCru) (a : Answer (Found (List ℕ))) → Tells set h a
+    → headersOf (packetIn a) ≡ pick (not (isRefused a) && isMatch set h) (h ∷ []) []
+header-told set h (gives passed) other = sym (off _ _ other)
+header-told set h (gives (handed p)) (same, taken) = ap (λ (x : RdhCru). x ∷ []) same ∙ sym (on _ _ taken)
+header-told set h (gives (wants place size)) told = absurd told
+header-told set h (refuses number values) told = refl
+
+headers-both : (ps qs : List Packet) → headersOf (ps ++ qs) ≡ headersOf ps ++ headersOf qs
+headers-both [] qs = refl
+headers-both (p ∷ ps) qs = ap (λ (hs : List RdhCru). p .header ∷ hs) (headers-both ps qs)
+
+abbrev headersIn : Entry (List ℕ) → List RdhCru
+headersIn e = headersOf (packetIn (e .answer))
+
+headers-in : (es : List (Entry (List ℕ))) → headersOf (packetsIn es) ≡ flatMap headersIn es
+unfolding flatMap
+headers-in [] = refl
+headers-in (e ∷ es) = headers-both (packetIn (e .answer)) (packetsIn es) ∙ ap (λ (hs : List RdhCru). headersIn e ++ hs) (headers-in es)
+
+pub exactly-matching : ExactlyMatching
+unfolding matching
+exactly-matching recording set start =
+    headers-in (chain recording set start)
+    ∙ entries-collected headersIn recording set start
+    ∙ same-collected (λ m. headersIn (m .entry)) (matchIn set) recording set start (λ k.
+    header-told set (headerAt recording k) (next recording set k .answer) (next-tells recording set k))
+
+-- ---- to the chain's end
+
+-- A load that is not held back leaves no more entries than there were.
+abbrev NoLonger : Settings → Window → LoadMarks → Kept → List (Entry (List ℕ)) → Type 0
+NoLonger set w ms k es = isHeld (loadAlong set w ms k es .reply) ≡ false → length (loadAlong set w ms k es .rest) ≤ length es
+
+-- And it takes one, or more.
+load-takes : (set : Settings) (w : Window) (ms : LoadMarks) (k : Kept) (e : Entry (List ℕ)) (es : List (Entry (List ℕ)))
+    → NoLonger set w (together ms (e .marks)) (left e) es
+    → isHeld (loadAlong set w ms k (e ∷ es) .reply) ≡ false → length (loadAlong set w ms k (e ∷ es) .rest) ≤ length es
+unfolding loadAlong
+load-takes set w ms k e es onward = by-held (heldBack set k w e) (quiet set k w e)
+  where
+    by-held : (h : Hold) → Quiet k h
+        → isHeld (loadedBy ms k e es (loadAlong set w (together ms (e .marks)) (left e) es) h .reply) ≡ false
+        → length (loadedBy ms k e es (loadAlong set w (together ms (e .marks)) (left e) es) h .rest) ≤ length es
+    by-held free fine =
+        by-test (λ (o : Served). isHeld (o .reply) ≡ false → length (o .rest) ≤ length es) (isPassed (e .answer)) _ _
+        (λ passes. onward) (λ stops is. omega arith)
+    by-held (held a) (none, told) = λ is. absurd (true≢false (sym told ∙ is))
+
+no-longer : (set : Settings) (w : Window) (es : List (Entry (List ℕ))) (ms : LoadMarks) (k : Kept) → NoLonger set w ms k es
+unfolding loadAlong
+no-longer set w [] ms k is = omega arith
+no-longer set w (e ∷ es) ms k is =
+    omega (arith, load-takes set w ms k e es (no-longer set w es (together ms (e .marks)) (left e)) is)
+
+examined-takes : (k : Kept) (e : Entry (List ℕ)) (es : List (Entry (List ℕ))) (h : Hold) → Quiet k h
+    → isHeld (examinedBy k e es h .reply) ≡ false → length (examinedBy k e es h .rest) ≤ length es
+examined-takes k e es free fine is = omega arith
+examined-takes k e es (held a) (none, told) is = absurd (true≢false (sym told ∙ is))
+
+served-takes : (set : Settings) (k : Kept) (c : Call) (e : Entry (List ℕ)) (es : List (Entry (List ℕ)))
+    → isHeld (servedBy set k c e es .reply) ≡ false → length (servedBy set k c e es .rest) ≤ length es
+unfolding servedBy
+served-takes set k (examines w) e es = examined-takes k e es (heldBack set k w e) (quiet set k w e)
+served-takes set k (loads w) e es = load-takes set w noLoadMarks k e es (no-longer set w es (together noLoadMarks (e .marks)) (left e))
+
+none-left : (es : List (Entry (List ℕ))) → length es ≤ 0 → es ≡ []
+none-left [] few = refl
+none-left (e ∷ es) few = absurd (omega (arith, few))
+
+along-ends : (set : Settings) (k : Kept) (calls : List Call) (es : List (Entry (List ℕ))) → length es ≤ length calls
+    → noneHeld (along set k calls es) ≡ true → toCome set k calls es ≡ []
+unfolding cutInto leftOver noneHeld
+along-ends set k [] es few free-all = none-left es few
+along-ends set k (c ∷ cs) [] few free-all = refl
+along-ends set k (c ∷ cs) (e ∷ es) few free-all =
+    let o = servedBy set k c e es in
+    let (this, others) = both (not (isHeld (o .reply))) (noneHeld (along set (keptBy (o .reply)) cs (o .rest))) free-all in
+    along-ends set (keptBy (o .reply)) cs (o .rest) (omega (arith, few, served-takes set k c e es (not-true _ this))) others
+
+pub reaches-end : ReachesEnd
+reaches-end recording set start calls windows enough free-all =
+    along-ends set start calls (chain recording set start) enough
+    (ap noneHeld (sym (calls-follow recording set start calls windows)) ∙ free-all)

@@ -1,0 +1,19 @@
+-- Proof of demand 3: each part is proved where its statement's laws are.
+use Rattle.chain.specs.AddedBytesLaws.{added-bytes}
+use Rattle.chain.specs.CallsFollowLaws.{calls-follow}
+use Rattle.chain.specs.PacketsLaws.{each-once, exactly-matching, reaches-end}
+use Rattle.validators.specs.VerdictsLaws.{follows}
+use Rattle.demand3.specs.Demand3.{Demand3}
+use Rattle.demand3.specs.MarkedCasesLaws.{marked-agree}
+
+pub demand-3 : Demand3
+demand-3 =
+    record {
+      calls = calls-follow;
+      exactly = exactly-matching;
+      each = each-once;
+      ends = reaches-end;
+      added = added-bytes;
+      verdicts = follows;
+      cases = marked-agree;
+    }
