@@ -1,1 +1,1 @@
-pub mod HeldIds
+pub mod Owned

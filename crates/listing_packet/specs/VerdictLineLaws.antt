@@ -34,6 +34,15 @@ refusalIn : Answer Judged → ℕ
 refusalIn (gives j) = 0
 refusalIn (refuses number values) = number
 
+-- What a check with a buffer of 512 bytes tells, by its verdict: `r` is its reply, and `m` what is left in the buffer. Such a buffer is never
+-- too short.
+pub record Told (v : RdhCruSanityValidator) (h : RdhCru) (position : ℕ) (r : SanityCheck) (m : List ℕ) : Type 0 where
+  pub validator : r .validator ≡ settledBy v h
+  pub sound : r .verdict ≡ Sound → (false ≡ not (soundTo v h)) × (verdictLine v position h ≡ [])
+  pub flawed : (n : ℕ) → r .verdict ≡ NotSound n
+      → (true ≡ not (soundTo v h)) × (lineAt position (take n m) ≡ verdictLine v position h) × (n ≤ 512)
+  pub never-short : (n : ℕ) → r .verdict ≡ TooShort n → ⊥
+
 module _ (v : RdhCruSanityValidator) (h : RdhCru) (small : expectedId (v .«header_id») (h .rdh0 .«header_id») < 256) (fits : InRange h) where
   -- 512 bytes are always enough for a verdict's text (V6)
   pub text-fits : length (textOf v h) ≤ 512
@@ -49,7 +58,7 @@ module _ (v : RdhCruSanityValidator) (h : RdhCru) (small : expectedId (v .«head
     judged = checks .verdict ∙ on _ _ (le-leb _ _ enough)
 
     -- the header is checked, and its ID may be settled
-    pub checked : r .validator ≡ settledBy v h
+    checked : r .validator ≡ settledBy v h
     unfolding validatorAfter
     checked = checks .validator ∙ on _ _ (le-leb _ _ enough)
 
@@ -58,10 +67,10 @@ module _ (v : RdhCruSanityValidator) (h : RdhCru) (small : expectedId (v .«head
     unfolding soundIn
     sound-to is = sym (ap soundIn judged) ∙ ap (λ (x : Verdict). soundIn (verdictAnswer x)) is
 
-    pub sound-told : r .verdict ≡ Sound → false ≡ not (soundTo v h)
+    sound-told : r .verdict ≡ Sound → false ≡ not (soundTo v h)
     sound-told is = sym (ap not (sound-to is))
 
-    pub sound-line : r .verdict ≡ Sound → verdictLine v position h ≡ []
+    sound-line : r .verdict ≡ Sound → verdictLine v position h ≡ []
     unfolding verdictLine
     sound-line is = on _ _ (sound-to is)
 
@@ -70,14 +79,14 @@ module _ (v : RdhCruSanityValidator) (h : RdhCru) (small : expectedId (v .«head
     unfolding soundIn
     flawed-to n is = sym (ap soundIn judged) ∙ ap (λ (x : Verdict). soundIn (verdictAnswer x)) is
 
-    pub flawed-told : (n : ℕ) → r .verdict ≡ NotSound n → true ≡ not (soundTo v h)
+    flawed-told : (n : ℕ) → r .verdict ≡ NotSound n → true ≡ not (soundTo v h)
     flawed-told n is = sym (ap not (flawed-to n is))
 
     flawed-length : (n : ℕ) → r .verdict ≡ NotSound n → n ≡ length (textOf v h)
     unfolding lengthIn
     flawed-length n is = sym (ap (λ (x : Verdict). lengthIn (verdictAnswer x)) is) ∙ ap lengthIn judged
 
-    pub flawed-within : (n : ℕ) → r .verdict ≡ NotSound n → n ≤ 512
+    flawed-within : (n : ℕ) → r .verdict ≡ NotSound n → n ≤ 512
     flawed-within n is = omega (arith, flawed-length n is, text-fits)
 
     text-there : (n : ℕ) → n ≡ length (textOf v h) → take n m ≡ textOf v h
@@ -87,12 +96,21 @@ module _ (v : RdhCruSanityValidator) (h : RdhCru) (small : expectedId (v .«head
         ∙ ap (λ (t : List ℕ). take (length (textOf v h)) t) (checks .leaves ∙ on _ _ (le-leb _ _ enough))
         ∙ take-append-seam (textOf v h) (drop (length (textOf v h)) l)
 
-    pub flawed-line : (n : ℕ) → r .verdict ≡ NotSound n → lineAt position (take n m) ≡ verdictLine v position h
+    flawed-line : (n : ℕ) → r .verdict ≡ NotSound n → lineAt position (take n m) ≡ verdictLine v position h
     unfolding verdictLine
     flawed-line n is = ap (λ (t : List ℕ). lineAt position t) (text-there n (flawed-length n is)) ∙ sym (off _ _ (flawed-to n is))
 
     -- a buffer of 512 bytes is never too short
-    pub never-short : (n : ℕ) → r .verdict ≡ TooShort n → ⊥
+    never-short : (n : ℕ) → r .verdict ≡ TooShort n → ⊥
     unfolding refusalIn
     never-short n is =
         let seven : _≡_ {A = ℕ} 7 0 = sym (ap (λ (x : Verdict). refusalIn (verdictAnswer x)) is) ∙ ap refusalIn judged in omega arith
+
+    pub told : Told v h position r m
+    told =
+        record {
+          validator = checked;
+          sound = λ is. (sound-told is, sound-line is);
+          flawed = λ n is. (flawed-told n is, flawed-line n is, flawed-within n is);
+          never-short = never-short;
+        }

@@ -5,7 +5,7 @@ use Rattle.listing_packet.specs.PacketLaws.{short-packet}
 use Rattle.listing_packet.specs.VerdictLineLaws.{text-fits}
 use Rattle.serde_rdh.proofs.Ranges.{in-range}
 use Rattle.rdh_row.specs.RowLaws.{longest-row}
-use Rattle.listing_packet.proofs.HeldIds.{expected-byte, id-byte}
+use Rattle.listing_packet.proofs.Owned.{held-to}
 use borrow.Author.Needs.{needs}
 use Rattle.listing_packet.proofs.put_packet.Statement.{statement}
 use Rattle.listing_packet.proofs.put_packet.Tie as tie
@@ -29,7 +29,7 @@ returns c =
     let v = start .args .validator in
     let h = start .args .rdh in
     let held = in-range h _ (start .good .1 .1 .1 .1 .0) in
-    let small = expected-byte (v .«header_id») (v .its) (h .rdh0 .«header_id») _ (id-byte h held) (start .good .1 .1 .0) in
+    let small = held-to v h _ (start .good .1 .1 .0) held in
     record {
       validator = judged .0;
       unsound = judged .1;

@@ -3,11 +3,9 @@ use Prim.Native.Nat.{ℕ, _-_}
 use mathlib.Core.Path.{_≡_, ap, sym, _∙_}
 use native.Mathlib.Omega.{arith}
 use lib.ListN.{length-replicate, take}
-use Rattle.serde_rdh.proofs.Ranges.{in-range}
 use Rattle.text.specs.PutLaws.{put-nothing, respelled}
 use Rattle.listing_lines.specs.Lines.{lineAt}
-use Rattle.listing_packet.specs.VerdictLineLaws.{checked, flawed-line, flawed-told, flawed-within, never-short, sound-line, sound-told}
-use Rattle.listing_packet.proofs.HeldIds.{expected-byte, id-byte}
+use Rattle.listing_packet.proofs.Owned.{told-of}
 use borrow.Author.Needs.{needs}
 use Rattle.listing_packet.proofs.put_verdict_line.Statement.{statement}
 use Rattle.listing_packet.proofs.put_verdict_line.Tie as tie
@@ -32,18 +30,12 @@ part-put-line-start c = search needs
 
 part-put-line-end : tie.Need-part-put-line-end
 part-put-line-end c =
-    let judged-it = c .before .before .before in
-    let checked-it = judged-it .before .before .before .before in
-    let before = checked-it .before .before in
-    let start = before .before in
-    let v = start .args .validator in
-    let h = start .args .rdh in
-    let held = in-range h _ (start .good .1 .1 .1 .1 .0) in
-    let small = expected-byte (v .«header_id») (v .its) (h .rdh0 .«header_id») _ (id-byte h held) (start .good .1 .1 .0) in
-    let check = checked-it .check in
-    let room = length-replicate {A = ℕ} 512 0 in
-    let at = start .args .position .0 in
-    omega (arith, flawed-within v h small held at _ room _ _ (check .ensures) _ (judged-it .verdict .given .1))
+    let judged = c .before .before .before in
+    let checked = judged .before .before .before .before in
+    let start = checked .before .before .before in
+    let told = told-of _ _ (start .args .position .0) (start .good .1 .1 .0) (start .good .1 .1 .1 .1 .0) (length-replicate {A = ℕ} 512 0)
+    (checked .check .ensures) in
+    omega (arith, told .flawed _ (judged .verdict .given .1) .2)
 
 put-line-requires : tie.Need-put-line-requires
 put-line-requires c κs = search needs
@@ -53,61 +45,40 @@ enum-told-2 c = search needs
 
 returns : tie.Need-returns
 returns c =
-    let checked-it = c .before .before .before .before in
-    let before = checked-it .before .before in
-    let start = before .before in
-    let v = start .args .validator in
-    let h = start .args .rdh in
-    let held = in-range h _ (start .good .1 .1 .1 .1 .0) in
-    let small = expected-byte (v .«header_id») (v .its) (h .rdh0 .«header_id») _ (id-byte h held) (start .good .1 .1 .0) in
-    let check = checked-it .check in
-    let room = length-replicate {A = ℕ} 512 0 in
-    let at = start .args .position .0 in (
-      checked v h small held at _ room _ _ (check .ensures),
-      sound-told v h small held at _ room _ _ (check .ensures) (c .enum-told .given .1),
-      respelled (sym (sound-line v h small held at _ room _ _ (check .ensures) (c .enum-told .given .1)))
-          (put-nothing _ _ (omega arith) (omega arith)),
-    )
+    let checked = c .before .before .before .before in
+    let start = checked .before .before .before in
+    let told = told-of _ _ (start .args .position .0) (start .good .1 .1 .0) (start .good .1 .1 .1 .1 .0) (length-replicate {A = ℕ} 512 0)
+    (checked .check .ensures) in
+    let sound = told .sound (c .enum-told .given .1) in
+    (told .validator, sound .0, respelled (sym (sound .1)) (put-nothing _ _ (omega arith) (omega arith)))
 
 same-length : tie.Need-same-length
 same-length c = search needs
 
 returns-2 : tie.Need-returns-2
 returns-2 c =
-    let judged-it = c .before .before .before .before .before .before .before in
-    let checked-it = judged-it .before .before .before .before in
-    let before = checked-it .before .before in
-    let start = before .before in
-    let v = start .args .validator in
-    let h = start .args .rdh in
-    let held = in-range h _ (start .good .1 .1 .1 .1 .0) in
-    let small = expected-byte (v .«header_id») (v .its) (h .rdh0 .«header_id») _ (id-byte h held) (start .good .1 .1 .0) in
-    let check = checked-it .check in
-    let room = length-replicate {A = ℕ} 512 0 in
-    let at = start .args .position .0 in
-    let n = judged-it .verdict .given .0 .0 in
+    let judged = c .before .before .before .before .before .before .before in
+    let checked = judged .before .before .before .before in
+    let start = checked .before .before .before in
+    let told = told-of _ _ (start .args .position .0) (start .good .1 .1 .0) (start .good .1 .1 .1 .1 .0) (length-replicate {A = ℕ} 512 0)
+    (checked .check .ensures) in
+    let flawed = told .flawed _ (judged .verdict .given .1) in
+    let n = judged .verdict .given .0 .0 in
     let whole : n - 0 ≡ n = omega arith in (
-      checked v h small held at _ room _ _ (check .ensures),
-      flawed-told v h small held at _ room _ _ (check .ensures) _ (judged-it .verdict .given .1),
+      told .validator,
+      flawed .0,
       respelled
-          (ap (λ (k : ℕ). lineAt at (take k (check .last .1 .1 .0))) whole
-          ∙ flawed-line v h small held at _ room _ _ (check .ensures) _ (judged-it .verdict .given .1))
+          (ap (λ (k : ℕ). lineAt (start .args .position .0) (take k (checked .check .last .1 .1 .0))) whole ∙ flawed .1)
           (c .before .before .put-line .ensures),
     )
 
 returns-3 : tie.Need-returns-3
 returns-3 c =
-    let checked-it = c .before .before .before .before in
-    let before = checked-it .before .before in
-    let start = before .before in
-    let v = start .args .validator in
-    let h = start .args .rdh in
-    let held = in-range h _ (start .good .1 .1 .1 .1 .0) in
-    let small = expected-byte (v .«header_id») (v .its) (h .rdh0 .«header_id») _ (id-byte h held) (start .good .1 .1 .0) in
-    let check = checked-it .check in
-    let room = length-replicate {A = ℕ} 512 0 in
-    let at = start .args .position .0 in
-    absurd (never-short v h small held at _ room _ _ (check .ensures) _ (c .enum-told2 .given .1))
+    let checked = c .before .before .before .before in
+    let start = checked .before .before .before in
+    let told = told-of _ _ (start .args .position .0) (start .good .1 .1 .0) (start .good .1 .1 .1 .1 .0) (length-replicate {A = ℕ} 512 0)
+    (checked .check .ensures) in
+    absurd (told .never-short _ (c .enum-told2 .given .1))
 
 pub put-verdict-line-spec : {M : Type 1} → statement M
 put-verdict-line-spec =
