@@ -21,7 +21,7 @@ pub record Left : Type 0 where
 abbrev pub left : PlainListed → (links feeIds out : List ℕ) → Left
 left reply links feeIds out = record { reply = reply; links = links; feeIds = feeIds; out = out }
 
--- What a call with this outcome leaves.
+-- What a call that made this listing leaves.
 abbrev pub leftBy : Listing → Left
 leftBy o = left (listedWith (o .stop) (o .state .progress) (o .validator) (o .bytes) (o .unsound)) (o .state .links) (o .feeIds) (o .out)
 

@@ -1,4 +1,4 @@
--- What the loop leaves is the outcome that the definition has.
+-- What the loop leaves is the listing that the definition has.
 use Prim.Native.Nat.{ℕ, _+_, _≤_}
 use mathlib.Core.Path.{_≡_, ap, _∙_}
 use mathlib.Core.List.{List, _++_}

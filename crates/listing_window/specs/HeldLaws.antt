@@ -1,4 +1,4 @@
--- Laws of moving bytes to the front of a buffer.
+-- Laws of what a buffer holds: when bytes move to its front, and when it is read on.
 use Prim.Native.Nat.{ℕ, suc, _+_, _-_, _≤_, _<_, max}
 use mathlib.Core.Path.{_≡_, ap, sym, subst, _∙_}
 use mathlib.Core.List.{List, _++_}

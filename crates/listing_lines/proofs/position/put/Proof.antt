@@ -20,8 +20,8 @@ same-length c = search needs
 returns : tie.Need-returns
 unfolding positionText
 returns c =
-    let colon = c .before .before .before .before .before .before in
-    and-then (colon .put-bytes .ensures) (c .before .before .put-digits .ensures)
+    let prefix = c .before .before .before .before .before .before in
+    and-then (prefix .put-bytes .ensures) (c .before .before .put-digits .ensures)
 
 pub put-spec : {M : Type 1} → statement M
 put-spec =
