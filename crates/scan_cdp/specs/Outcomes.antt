@@ -1,9 +1,10 @@
 -- What becomes of one header: steps 2 to 4 of an examination (S2 to S4), in their order.
-use Prim.Native.Nat.{ℕ, _-_}
+use Prim.Native.Nat.{ℕ}
 use mathlib.Core.Bool.{Bool, true, false, not, _||_, _&&_}
 use lib.Dec.{ltb}
 use Rattle.basis.specs.Pick.{pick}
 use Rattle.filter.specs.Filter.{matches, targetOf}
+pub use Rattle.rdh.specs.PayloadSize.{payloadSize}
 use Rattle.rdh.specs.declared.rdh_cru.RdhCru.{RdhCru}
 use Rattle.scan_cdp.specs.declared.Settings.{Settings}
 use Rattle.scan_cdp.specs.declared.Outcome.{Outcome}
@@ -18,10 +19,6 @@ memorySize h = h .«memory_size»
 
 abbrev pub feeId : RdhCru → ℕ
 feeId h = h .rdh0 .«fee_id» .0
-
--- The payload size (T2). It is 0 for a memory size below 64, which no packet has (R3).
-abbrev pub payloadSize : RdhCru → ℕ
-payloadSize h = memorySize h - 64
 
 -- Whether a header matches the filter (T3, S3).
 abbrev pub isMatch : Settings → RdhCru → Bool

@@ -9,7 +9,7 @@ use crate::little_endian::read_u16;
 use crate::little_endian::read_u64;
 use rdh::rdh_cru::CruidDw;
 use rdh::rdh_cru::DataformatReserved;
-pub use rdh::rdh_cru::RDH_CRU_SIZE_BYTES;
+use rdh::rdh_cru::RDH_CRU_SIZE_BYTES;
 use rdh::rdh_cru::RdhCru;
 use serde_rdh_numbers::join_u8;
 use serde_rdh_numbers::join_u16;
