@@ -37,100 +37,97 @@ unfoldable pub anyFails : List Test → Bool
 anyFails [] = false
 anyFails (t ∷ ts) = t .fails || anyFails ts
 
+-- The piece of a test if it fails.
+abbrev pub pieceOf : Test → List ℕ
+pieceOf t = pick (t .fails) (t .piece) []
+
 -- The pieces of the tests that fail, in their order.
 unfoldable pub pieces : List Test → List ℕ
 pieces [] = []
-pieces (t ∷ ts) = pick (t .fails) (t .piece) [] ++ pieces ts
+pieces (t ∷ ts) = pieceOf t ++ pieces ts
 
 -- The pieces under their word's heading, where there are any.
 abbrev pub section : String → List Test → List ℕ
 section heading ts = pick (anyFails ts) (ascii heading ++ pieces ts) []
 
 -- The tests of a FEE id: no bit of 0x8CC0; stave 0 to 47; layer 0 to 6 (V4).
-abbrev pub feeIdReservedTest : ℕ → Test
-feeIdReservedTest fee = test (not (eqb (bitAnd fee 0x8CC0) 0)) (hexPiece "reserved bits = " (bitAnd fee 0x8CC0))
+abbrev pub reservedBitsTest : ℕ → Test
+reservedBitsTest n = test (not (eqb n 0)) (hexPiece "reserved bits = " n)
 
 abbrev pub staveTest : ℕ → Test
-staveTest fee = test (ltb 47 (staveOf fee)) (decimalPiece "stave number = " (staveOf fee))
+staveTest n = test (ltb 47 n) (decimalPiece "stave number = " n)
 
 abbrev pub layerTest : ℕ → Test
-layerTest fee = test (ltb 6 (layerOf fee)) (decimalPiece "layer = " (layerOf fee))
+layerTest n = test (ltb 6 n) (decimalPiece "layer = " n)
 
 unfoldable pub feeIdTests : ℕ → List Test
-feeIdTests fee = feeIdReservedTest fee ∷ staveTest fee ∷ layerTest fee ∷ []
+feeIdTests fee = reservedBitsTest (bitAnd fee 0x8CC0) ∷ staveTest (staveOf fee) ∷ layerTest (layerOf fee) ∷ []
 
--- The tests of RDH0 (V4). The expected header ID is the one that the header is held to; the system id is tested with ITS alone.
-abbrev pub headerIdTest : Criteria → Rdh0 → Test
-headerIdTest criteria w =
-    test (not (eqb (w .«header_id») (criteria .«header_id»)))
-    (ascii "Header ID = " ++ decimal (w .«header_id») ++ ascii " (expected " ++ decimal (criteria .«header_id») ++ ascii ")")
+-- The tests of RDH0 (V4): the header ID is the one that the header is held to; the size is 64; those of the FEE id; the priority bit is 0;
+-- the system id is 32, tested with ITS alone; and, as in each word, the reserved part is 0.
+abbrev pub headerIdTest : Criteria → ℕ → Test
+headerIdTest criteria n =
+    test (not (eqb n (criteria .«header_id»)))
+    (ascii "Header ID = " ++ decimal n ++ ascii " (expected " ++ decimal (criteria .«header_id») ++ ascii ")")
 
-abbrev pub headerSizeTest : Rdh0 → Test
-headerSizeTest w = test (not (eqb (w .«header_size») 64)) (hexPiece "Header size = " (w .«header_size»))
+abbrev pub headerSizeTest : ℕ → Test
+headerSizeTest n = test (not (eqb n 64)) (hexPiece "Header size = " n)
 
-abbrev pub feeIdTest : Rdh0 → Test
-feeIdTest w =
-    test (anyFails (feeIdTests (w .«fee_id» .0))) (ascii "FEE ID = [" ++ pieces (feeIdTests (w .«fee_id» .0)) ++ ascii "] ")
+abbrev pub feeIdTest : ℕ → Test
+feeIdTest fee = test (anyFails (feeIdTests fee)) (ascii "FEE ID = [" ++ pieces (feeIdTests fee) ++ ascii "] ")
 
-abbrev pub priorityBitTest : Rdh0 → Test
-priorityBitTest w = test (not (eqb (w .«priority_bit») 0)) (hexPiece "Priority bit = " (w .«priority_bit»))
+abbrev pub priorityBitTest : ℕ → Test
+priorityBitTest n = test (not (eqb n 0)) (hexPiece "Priority bit = " n)
 
-abbrev pub systemIdTest : Criteria → Rdh0 → Test
-systemIdTest criteria w = test (criteria .its && not (eqb (w .«system_id») 32)) (hexPiece "system_id = " (w .«system_id»))
+abbrev pub systemIdTest : Criteria → ℕ → Test
+systemIdTest criteria n = test (criteria .its && not (eqb n 32)) (hexPiece "system_id = " n)
 
-abbrev pub rdh0ReservedTest : Rdh0 → Test
-rdh0ReservedTest w = test (not (eqb (w .reserved0) 0)) (hexPiece "reserved0 = " (w .reserved0))
+abbrev pub reserved0Test : ℕ → Test
+reserved0Test n = test (not (eqb n 0)) (hexPiece "reserved0 = " n)
 
 unfoldable pub rdh0Tests : Criteria → Rdh0 → List Test
 rdh0Tests criteria w =
-    headerIdTest criteria w ∷ headerSizeTest w ∷ feeIdTest w ∷ priorityBitTest w ∷ systemIdTest criteria w ∷ rdh0ReservedTest w ∷ []
+    headerIdTest criteria (w .«header_id»)
+    ∷ headerSizeTest (w .«header_size»)
+    ∷ feeIdTest (w .«fee_id» .0)
+    ∷ priorityBitTest (w .«priority_bit»)
+    ∷ systemIdTest criteria (w .«system_id»)
+    ∷ reserved0Test (w .reserved0)
+    ∷ []
 
--- The tests of RDH1: the reserved part of BC is 0; BC is at most 0xdeb (V4).
-abbrev pub rdh1ReservedTest : Rdh1 → Test
-rdh1ReservedTest w =
-    test (not (eqb (bcReservedOf (w .«bc_reserved0» .0)) 0)) (hexPiece "reserved0 = " (bcReservedOf (w .«bc_reserved0» .0)))
-
-abbrev pub bcTest : Rdh1 → Test
-bcTest w = test (ltb 0xdeb (bcOf (w .«bc_reserved0» .0))) (hexPiece "BC = " (bcOf (w .«bc_reserved0» .0)))
+-- The tests of RDH1: BC is at most 0xdeb (V4).
+abbrev pub bcTest : ℕ → Test
+bcTest n = test (ltb 0xdeb n) (hexPiece "BC = " n)
 
 unfoldable pub rdh1Tests : Rdh1 → List Test
-rdh1Tests w = rdh1ReservedTest w ∷ bcTest w ∷ []
+rdh1Tests w = reserved0Test (bcReservedOf (w .«bc_reserved0» .0)) ∷ bcTest (bcOf (w .«bc_reserved0» .0)) ∷ []
 
--- The tests of RDH2: byte 39 is 0; the stop bit is at most 1; the trigger type is not 0, and has no bit of 15 to 26 (V4).
-abbrev pub rdh2ReservedTest : Rdh2 → Test
-rdh2ReservedTest w = test (not (eqb (w .reserved0) 0)) (hexPiece "reserved0 = " (w .reserved0))
+-- The tests of RDH2: the stop bit is at most 1; the trigger type is not 0, and has no bit of 15 to 26 (V4).
+abbrev pub stopBitTest : ℕ → Test
+stopBitTest n = test (ltb 1 n) (hexPiece "stop bit = " n)
 
-abbrev pub stopBitTest : Rdh2 → Test
-stopBitTest w = test (ltb 1 (w .«stop_bit»)) (hexPiece "stop bit = " (w .«stop_bit»))
-
-abbrev pub triggerTypeTest : Rdh2 → Test
-triggerTypeTest w =
-    test (eqb (w .«trigger_type») 0 || not (eqb (bits 15 26 (w .«trigger_type»)) 0))
-    (hexPiece "Spare bits set in trigger_type = " (w .«trigger_type»))
+abbrev pub triggerTypeTest : ℕ → Test
+triggerTypeTest n = test (eqb n 0 || not (eqb (bits 15 26 n) 0)) (hexPiece "Spare bits set in trigger_type = " n)
 
 unfoldable pub rdh2Tests : Rdh2 → List Test
-rdh2Tests w = rdh2ReservedTest w ∷ stopBitTest w ∷ triggerTypeTest w ∷ []
+rdh2Tests w = reserved0Test (w .reserved0) ∷ stopBitTest (w .«stop_bit») ∷ triggerTypeTest (w .«trigger_type») ∷ []
 
--- The tests of RDH3: bytes 54 and 55 are 0; the detector field has no bit of 12 to 23 (V4).
-abbrev pub rdh3ReservedTest : Rdh3 → Test
-rdh3ReservedTest w = test (not (eqb (w .reserved0) 0)) (hexPiece "reserved0 = " (w .reserved0))
-
-abbrev pub detectorFieldTest : Rdh3 → Test
-detectorFieldTest w = test (not (eqb (bits 12 23 (w .«detector_field»)) 0)) (hexPiece "detector_field = " (w .«detector_field»))
+-- The tests of RDH3: the detector field has no bit of 12 to 23 (V4).
+abbrev pub detectorFieldTest : ℕ → Test
+detectorFieldTest n = test (not (eqb (bits 12 23 n) 0)) (hexPiece "detector_field = " n)
 
 unfoldable pub rdh3Tests : Rdh3 → List Test
-rdh3Tests w = rdh3ReservedTest w ∷ detectorFieldTest w ∷ []
+rdh3Tests w = reserved0Test (w .reserved0) ∷ detectorFieldTest (w .«detector_field») ∷ []
 
--- The tests of dw, which is at most 1, and data format, at most 2; they stand under no word (V4).
-abbrev pub dwTest : RdhCru → Test
-dwTest h = test (ltb 1 (dwOf (h .«cruid_dw» .0))) (hexPiece "dw = " (dwOf (h .«cruid_dw» .0)))
+-- The tests of what stands under no word: dw is at most 1; the data format is at most 2 (V4).
+abbrev pub dwTest : ℕ → Test
+dwTest n = test (ltb 1 n) (hexPiece "dw = " n)
 
-abbrev pub dataFormatTest : RdhCru → Test
-dataFormatTest h =
-    test (ltb 2 (dataFormatOf (h .«dataformat_reserved0» .0))) (hexPiece "data format = " (dataFormatOf (h .«dataformat_reserved0» .0)))
+abbrev pub dataFormatTest : ℕ → Test
+dataFormatTest n = test (ltb 2 n) (hexPiece "data format = " n)
 
 unfoldable pub cruTests : RdhCru → List Test
-cruTests h = dwTest h ∷ dataFormatTest h ∷ []
+cruTests h = dwTest (dwOf (h .«cruid_dw» .0)) ∷ dataFormatTest (dataFormatOf (h .«dataformat_reserved0» .0)) ∷ []
 
 -- All tests there are (V3).
 unfoldable pub allTests : Criteria → RdhCru → List Test

@@ -10,18 +10,18 @@ const DATA_FORMAT_MAX: u8 = 2;
 pub fn fails(rdh: RdhCru) -> bool
     ensures { λ r. ⌜ r ≡ anyFails (cruTests rdh) ⌝ }
 {
-    let dw = dw_fails(rdh);
-    dw | data_format_fails(rdh)
+    let dw = dw_fails(rdh.dw());
+    dw | data_format_fails(rdh.data_format())
 }
 
-pub fn dw_fails(rdh: RdhCru) -> bool
-    ensures { λ r. ⌜ r ≡ dwTest rdh .fails ⌝ }
+pub fn dw_fails(dw: u8) -> bool
+    ensures { λ r. ⌜ r ≡ dwTest dw .fails ⌝ }
 {
-    rdh.dw() > DW_MAX
+    dw > DW_MAX
 }
 
-pub fn data_format_fails(rdh: RdhCru) -> bool
-    ensures { λ r. ⌜ r ≡ dataFormatTest rdh .fails ⌝ }
+pub fn data_format_fails(data_format: u8) -> bool
+    ensures { λ r. ⌜ r ≡ dataFormatTest «data_format» .fails ⌝ }
 {
-    rdh.data_format() > DATA_FORMAT_MAX
+    data_format > DATA_FORMAT_MAX
 }

@@ -1,7 +1,7 @@
 // The tests of a FEE id: reserved bits, stave and layer.
 ghost use mathlib.Core.Path.{_≡_};
 ghost use lib.Bits.{bitAnd};
-ghost use Rattle.sanity.specs.Tests.{anyFails, feeIdReservedTest, feeIdTests, layerTest, staveTest};
+ghost use Rattle.sanity.specs.Tests.{anyFails, feeIdTests, layerTest, reservedBitsTest, staveTest};
 use rdh::rdh0::FeeId;
 
 const RESERVED_BITS_MASK: u16 = 0b1000_1100_1100_0000;
@@ -13,15 +13,9 @@ const LAYER_MAX: u8 = 6;
 pub fn fails(fee_id: FeeId) -> bool
     ensures { λ r. ⌜ r ≡ anyFails (feeIdTests («fee_id» .0)) ⌝ }
 {
-    let reserved_bits = reserved_bits_fail(fee_id);
-    let stave_number = stave_number_fails(fee_id);
-    reserved_bits | stave_number | layer_fails(fee_id)
-}
-
-pub fn reserved_bits_fail(fee_id: FeeId) -> bool
-    ensures { λ r. ⌜ r ≡ feeIdReservedTest («fee_id» .0) .fails ⌝ }
-{
-    reserved_bits(fee_id) != 0
+    let reserved_bits = reserved_bits_fail(reserved_bits(fee_id));
+    let stave_number = stave_number_fails(fee_id.stave());
+    reserved_bits | stave_number | layer_fails(fee_id.layer())
 }
 
 pub fn reserved_bits(fee_id: FeeId) -> u16
@@ -30,14 +24,20 @@ pub fn reserved_bits(fee_id: FeeId) -> u16
     fee_id.0 & RESERVED_BITS_MASK
 }
 
-pub fn stave_number_fails(fee_id: FeeId) -> bool
-    ensures { λ r. ⌜ r ≡ staveTest («fee_id» .0) .fails ⌝ }
+pub fn reserved_bits_fail(reserved_bits: u16) -> bool
+    ensures { λ r. ⌜ r ≡ reservedBitsTest «reserved_bits» .fails ⌝ }
 {
-    fee_id.stave() > STAVE_NUMBER_MAX
+    reserved_bits != 0
 }
 
-pub fn layer_fails(fee_id: FeeId) -> bool
-    ensures { λ r. ⌜ r ≡ layerTest («fee_id» .0) .fails ⌝ }
+pub fn stave_number_fails(stave_number: u8) -> bool
+    ensures { λ r. ⌜ r ≡ staveTest «stave_number» .fails ⌝ }
 {
-    fee_id.layer() > LAYER_MAX
+    stave_number > STAVE_NUMBER_MAX
+}
+
+pub fn layer_fails(layer: u8) -> bool
+    ensures { λ r. ⌜ r ≡ layerTest layer .fails ⌝ }
+{
+    layer > LAYER_MAX
 }

@@ -1,7 +1,7 @@
 // Which tests a header fails: what the Rust's validators call a sanity check, without its text. A module for each word of the header.
 // Every function answers whether any of its tests fails, without a branch.
 ghost use mathlib.Core.Path.{_≡_};
-ghost use Rattle.sanity.specs.Tests.{allTests, anyFails};
+ghost use Rattle.sanity.specs.Tests.{allTests, anyFails, reserved0Test};
 use rdh::rdh_cru::RdhCru;
 
 pub mod cru;
@@ -26,4 +26,11 @@ pub fn fails(criteria: Criteria, rdh: RdhCru) -> bool
     let rdh2 = rdh2::fails(rdh.rdh2);
     let rdh3 = rdh3::fails(rdh.rdh3);
     rdh0 | rdh1 | rdh2 | rdh3 | cru::fails(rdh)
+}
+
+// The reserved part of any of the words.
+pub fn reserved0_fails(reserved0: u32) -> bool
+    ensures { λ r. ⌜ r ≡ reserved0Test reserved0 .fails ⌝ }
+{
+    reserved0 != 0
 }

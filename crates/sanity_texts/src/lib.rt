@@ -6,8 +6,6 @@ use rdh::rdh_cru::RdhCru;
 use sanity::Criteria;
 
 mod cru;
-mod fee_id;
-mod piece;
 mod rdh0;
 mod rdh1;
 mod rdh2;

@@ -52,13 +52,13 @@ module _ (h : RdhCru) (fits : InRange h) where
       (and-piece _ _ (decimal-piece "stave number = " 1 (staveOf fee) (omega arith))
       (and-piece _ _ (decimal-piece "layer = " 0 (layerOf fee) (omega arith)) no-piece))
 
-  header-id-piece : (criteria : Criteria) → criteria .«header_id» < 256 → length (headerIdTest criteria (h .rdh0) .piece) ≤ 30
+  header-id-piece : (criteria : Criteria) → criteria .«header_id» < 256 → length (headerIdTest criteria (h .rdh0 .«header_id») .piece) ≤ 30
   unfolding span value
   header-id-piece criteria small =
       simp length-append
       (omega (arith, length-decimal 2 (h .rdh0 .«header_id») (omega (arith, fits header-id)), length-decimal 2 (criteria .«header_id») (omega arith)))
 
-  fee-id-piece : length (feeIdTest (h .rdh0) .piece) ≤ 63
+  fee-id-piece : length (feeIdTest (h .rdh0 .«fee_id» .0) .piece) ≤ 63
   fee-id-piece = simp length-append (omega (arith, fee-id-pieces))
 
   rdh0-section : (criteria : Criteria) → criteria .«header_id» < 256 → length (section "RDH0: " (rdh0Tests criteria (h .rdh0))) ≤ 174

@@ -6,14 +6,8 @@ use borrow.Author.Needs.{needs}
 use Rattle.sanity.proofs.rdh2.fails.Statement.{statement}
 use Rattle.sanity.proofs.rdh2.fails.Tie as tie
 
-reserved0-fails-requires : tie.Need-reserved0-fails-requires
-reserved0-fails-requires c κs = search needs
-
-stop-bit-fails-requires : tie.Need-stop-bit-fails-requires
-stop-bit-fails-requires c κs = search needs
-
-trigger-type-fails-requires : tie.Need-trigger-type-fails-requires
-trigger-type-fails-requires c κs = search needs
+cast-reserved0-fails : tie.Need-cast-reserved0-fails
+cast-reserved0-fails c = search needs
 
 returns : tie.Need-returns
 unfolding rdh2Tests
@@ -22,4 +16,9 @@ returns c = rw (c .before .before .reserved0-fails .ensures, c .before .stop-bit
 pub fails-spec : {M : Type 1} → statement M
 fails-spec =
     tie.close
-    (tie.spec reserved0-fails-requires stop-bit-fails-requires trigger-type-fails-requires returns)
+    (tie.spec
+    cast-reserved0-fails
+    (λ c κs. tt)
+    (λ c κs. tt)
+    (λ c κs. tt)
+    returns)

@@ -6,15 +6,14 @@ use borrow.Author.Needs.{needs}
 use Rattle.sanity.proofs.rdh3.fails.Statement.{statement}
 use Rattle.sanity.proofs.rdh3.fails.Tie as tie
 
-reserved0-fails-requires : tie.Need-reserved0-fails-requires
-reserved0-fails-requires c κs = search needs
-
-detector-field-fails-requires : tie.Need-detector-field-fails-requires
-detector-field-fails-requires c κs = search needs
+cast-reserved0-fails : tie.Need-cast-reserved0-fails
+cast-reserved0-fails c = search needs
 
 returns : tie.Need-returns
 unfolding rdh3Tests
 returns c = rw (c .before .reserved0-fails .ensures, c .detector-field-fails .ensures) (sym (any-of-2 _ _))
 
 pub fails-spec : {M : Type 1} → statement M
-fails-spec = tie.close (tie.spec reserved0-fails-requires detector-field-fails-requires returns)
+fails-spec =
+    tie.close
+    (tie.spec cast-reserved0-fails (λ c κs. tt) (λ c κs. tt) returns)

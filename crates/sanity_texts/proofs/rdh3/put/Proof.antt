@@ -2,47 +2,20 @@
 use mathlib.Core.Path.{refl}
 use native.Mathlib.Omega.{arith}
 use Rattle.text.specs.PutLaws.{and-then}
-use Rattle.sanity.specs.Tests.{detectorFieldTest, pieces, rdh3ReservedTest, rdh3Tests}
-use Rattle.sanity_texts.proofs.Pieces.{failed, headed, last-piece, passed, tested}
+use Rattle.sanity.specs.Tests.{detectorFieldTest, pieces, rdh3Tests}
+use Rattle.sanity_pieces.specs.PieceLaws.{failed, headed, last-piece, passed, tested}
 use borrow.Author.Needs.{needs}
 use Rattle.sanity_texts.proofs.rdh3.put.Statement.{statement}
 use Rattle.sanity_texts.proofs.rdh3.put.Tie as tie
 
-fails-requires : tie.Need-fails-requires
-fails-requires c κs = search needs
-
 returns : tie.Need-returns
 returns c = passed (headed "RDH3: " (rdh3Tests (c .before .before .before .args .rdh3))) _ _ (c .before .fails .ensures) (c .if1 .taken) (omega arith) (omega arith)
 
-slice-aggregate-put-bytes : tie.Need-slice-aggregate-put-bytes
-slice-aggregate-put-bytes c = search needs
-
-put-bytes-requires : tie.Need-put-bytes-requires
-put-bytes-requires c κs = search needs
-
-reserved0-fails-requires : tie.Need-reserved0-fails-requires
-reserved0-fails-requires c κs = search needs
-
-slice-aggregate-put-hex : tie.Need-slice-aggregate-put-hex
-slice-aggregate-put-hex c = search needs
+cast-put-reserved0 : tie.Need-cast-put-reserved0
+cast-put-reserved0 c = search needs
 
 cast-put-hex : tie.Need-cast-put-hex
 cast-put-hex c = search needs
-
-put-hex-requires : tie.Need-put-hex-requires
-put-hex-requires c κs = search needs
-
-detector-field-fails-requires : tie.Need-detector-field-fails-requires
-detector-field-fails-requires c κs = search needs
-
-slice-aggregate-put-hex-2 : tie.Need-slice-aggregate-put-hex-2
-slice-aggregate-put-hex-2 c = search needs
-
-cast-put-hex-2 : tie.Need-cast-put-hex-2
-cast-put-hex-2 c = search needs
-
-put-hex-requires-2 : tie.Need-put-hex-requires-2
-put-hex-requires-2 c κs = search needs
 
 same-length : tie.Need-same-length
 same-length c = search needs
@@ -51,30 +24,29 @@ returns-2 : tie.Need-returns-2
 unfolding pieces rdh3Tests
 returns-2 c =
     let detector = c .before .before in
-    let reserved = detector .before .before .before .before .before .before .before in
-    let heading = reserved .before .before .before .before .before .before .before in
-    let test = heading .before .before .before in
-    let w = test .before .before .before .args .rdh3 in
-    failed (headed "RDH3: " (rdh3Tests w)) (test .before .fails .ensures) (test .if1 .left)
+    let reserved = detector .before .before .before .before .before .before in
+    let heading = reserved .before .before .before .before .before in
+    let tests = heading .before .before .before in
+    let if-fails = tests .before in
+    let w = if-fails .before .before .before .args .rdh3 in
+    failed (headed "RDH3: " (rdh3Tests w)) (if-fails .before .fails .ensures) (if-fails .if1 .left)
     (and-then (heading .put-bytes .ensures)
-    (and-then (tested (rdh3ReservedTest w) (reserved .before .before .before .reserved0-fails .ensures) refl (reserved .put-hex .ensures))
-    (last-piece (tested (detectorFieldTest w) (detector .before .before .before .detector-field-fails .ensures) refl (detector .put-hex2 .ensures)))))
+    (and-then (reserved .put-reserved0 .ensures)
+    (last-piece (tested (detectorFieldTest _) (tests .detector-field-fails .ensures) (detector .put-hex .ensures)))))
 
 pub put-spec : {M : Type 1} → statement M
 put-spec =
     tie.close
     (tie.spec
-    fails-requires
+    (λ c κs. tt)
     returns
-    slice-aggregate-put-bytes
-    put-bytes-requires
-    reserved0-fails-requires
-    slice-aggregate-put-hex
+    (λ c κs. tt)
+    (λ c. refl)
+    (λ c κs. tt)
+    cast-put-reserved0
+    (λ c κs. tt)
+    (λ c. refl)
     cast-put-hex
-    put-hex-requires
-    detector-field-fails-requires
-    slice-aggregate-put-hex-2
-    cast-put-hex-2
-    put-hex-requires-2
+    (λ c κs. tt)
     same-length
     returns-2)
