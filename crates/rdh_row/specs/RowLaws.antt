@@ -10,7 +10,7 @@ use Rattle.serde_rdh.specs.Layout.Field.{header-id, header-size, fee-id, system
 use Rattle.rdh.specs.Subfields.{bcOf, dataFormatOf}
 use Rattle.text_numbers.specs.Numerals.{hex}
 use Rattle.text_numbers.specs.NumeralLaws.{decimal-column, hex-column, length-hex}
-use Rattle.rdh_row.specs.Columns.{columnsOf, columnsText}
+use Rattle.rdh_columns.specs.Columns.{columnsOf, columnsText}
 use Rattle.rdh_row.specs.Row.{rdh0Text, rdh1Text, rdh2Text, rowText}
 
 -- the columns of a header are its row

@@ -54,14 +54,14 @@ use Rattle.text_writer.proofs.TextWriter.write_hex.Symbol as hex-def
 use Rattle.text_writer.proofs.TextWriter.write_hex.Met as hex-thm
 use Rattle.text_writer.proofs.TextWriter.count.Symbol as count-def
 use Rattle.text_writer.proofs.TextWriter.count.Met as count-thm
-use Rattle.rdh_row.specs.declared.Columns.{Columns}
-use Rattle.rdh_row.specs.Columns.{columnsText}
-use Rattle.rdh_row.proofs.Columns as T
-use Rattle.rdh_row.proofs.Columns.Laws as T′
-use Rattle.rdh_row.proofs.put_columns.Key.{name as #put-columns}
-use Rattle.rdh_row.proofs.put_columns as f
-use Rattle.rdh_row.proofs.put_columns.Statement as stated
-use Rattle.rdh_row.proofs.put_columns.Code as code
+use Rattle.rdh_columns.specs.declared.Columns.{Columns}
+use Rattle.rdh_columns.specs.Columns.{columnsText}
+use Rattle.rdh_columns.proofs.Columns as T
+use Rattle.rdh_columns.proofs.Columns.Laws as T′
+use Rattle.rdh_columns.proofs.put_columns.Key.{name as #put-columns}
+use Rattle.rdh_columns.proofs.put_columns as f
+use Rattle.rdh_columns.proofs.put_columns.Statement as stated
+use Rattle.rdh_columns.proofs.put_columns.Code as code
 
 abbrev stayed : Stays (f.ended .signature .params) (f.ended .kept)
 stayed = (gave-slice (0 ∷ []) tt (plain (λ _. u8)), (stay-none (λ _. usize) yes, (stay-none (λ _. T.the-row) yes, tt)))

@@ -1,11 +1,11 @@
--- The row as one list of columns: what `Row`'s definitions say word by word, with the values taken out of the header first.
+-- The row as one list of columns: what `rdh_row`'s definitions say word by word, with the values taken out of the header first.
 use Prim.Native.Nat.{ℕ}
 use mathlib.Core.List.{List, _++_}
 use Rattle.rdh.specs.declared.rdh_cru.RdhCru.{RdhCru}
 use Rattle.rdh.specs.Subfields.{bcOf, dataFormatOf}
 use Rattle.text.specs.Ascii.{ascii}
 use Rattle.text_numbers.specs.Numerals.{decimal, hex, left}
-use Rattle.rdh_row.specs.declared.Columns.{Columns}
+use Rattle.rdh_columns.specs.declared.Columns.{Columns}
 
 unfoldable pub columnsOf : RdhCru → Columns
 columnsOf h = record {
