@@ -1,4 +1,4 @@
--- An example, which no contract and no statement cites: D3.1 on a small recording, computed. There are two packets of 64 bytes, and four
+-- An example, which no public contract cites: D3.1 on a small recording, computed. There are two packets of 64 bytes, and four
 -- calls on windows that meet the premises. The replies and the chain are written out, so that a reader sees that they agree.
 use Prim.Native.Nat.{ℕ}
 use mathlib.Core.Bool.{Bool, true, false, false≢true}

@@ -1,4 +1,4 @@
--- What holds from one load of the listing to the next: what is held stands in the window's buffer, and the output's has room.
+-- What holds from one load of the listing to the next: what is held stands in the window's buffer, and the output's has room. No public contract cites this.
 use Prim.Native.Nat.{ℕ, _+_, _≤_}
 use mathlib.Core.List.{List}
 use lib.ListN.{length}

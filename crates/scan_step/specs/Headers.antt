@@ -1,4 +1,4 @@
--- What is replied for a header in a window, whatever the bytes behind it are. No contract of another crate cites this.
+-- What is replied for a header in a window, whatever the bytes behind it are. No public contract cites this.
 use Prim.Native.Nat.{ℕ, _+_, _^_, _≤_, _<_}
 use mathlib.Core.Bool.{Bool}
 use mathlib.Core.Path.{_≡_}
