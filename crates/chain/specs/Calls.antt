@@ -18,7 +18,7 @@ use Rattle.scan_cdp.specs.declared.Settings.{Settings}
 use Rattle.scan_laws.specs.Runs.{isRefusal}
 use Rattle.chain.specs.Chain.{Kept, isRefused, left}
 use Rattle.chain.specs.Following as Following
-use Rattle.chain.specs.Following.{Each, cutInto, leftOver, repliesOf}
+use Rattle.chain.specs.Following.{Each, cutInto, keptAfter, leftOver, oneEnds, repliesOf}
 
 -- ---- calls
 
@@ -83,6 +83,13 @@ endsChain r = isRefused (replyAnswer r) && (not (isRefusal 6 (replyAnswer r)) ||
 -- The replies to a list of calls, each given the state and FEE list that the one before left, up to and with the one that ends the chain.
 abbrev pub replies : Settings → Kept → List Call → List Reply
 replies set = repliesOf (replyTo set) keptBy endsChain
+
+-- Whether one of the replies ended the chain, and what they leave for the next call.
+abbrev pub chainEnded : List Reply → Bool
+chainEnded = oneEnds endsChain
+
+abbrev pub keptByAll : Kept → List Reply → Kept
+keptByAll = keptAfter keptBy
 
 -- ---- what the chain says that they reply
 

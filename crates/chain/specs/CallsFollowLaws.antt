@@ -13,9 +13,9 @@ use Rattle.chain.specs.CallsLaws.{HeldFine, entry-ends, held-fine}
 use Rattle.chain.specs.Chain.{Kept, behind, chain, left, next}
 use Rattle.chain.specs.ChainLaws.{chain-unfolds}
 use Rattle.chain.specs.ExaminationLaws.{examination-follows, foundBy}
-use Rattle.chain.specs.FollowingLaws.{all-follow}
+use Rattle.chain.specs.FollowingLaws.{all-follow, rest-follows}
 use Rattle.chain.specs.LoadLaws.{load-follows}
-use Rattle.chain.specs.CallsFollow.{CallsFollow}
+use Rattle.chain.specs.CallsFollow.{CallsFollow, LeavesRest}
 
 -- ---- one call
 
@@ -59,7 +59,20 @@ serves recording set k (loads w) of =
 
 -- ---- all calls
 
+-- what is behind the next entry
+abbrev behindNext : List ℕ → Settings → Kept → List (Entry (List ℕ))
+behindNext recording set k = behind (chain recording set) (next recording set k)
+
+abbrev Fits : List ℕ → Call → Type 0
+Fits recording c = WindowOf recording (windowOf c)
+
 pub calls-follow : CallsFollow
 calls-follow recording set start calls windows =
-    all-follow (chain recording set) (next recording set) (λ (k : Kept). behind (chain recording set) (next recording set k)) (chain-unfolds recording set)
-    (replyTo set) keptBy endsChain (servedBy set) (λ (c : Call). WindowOf recording (windowOf c)) (serves recording set) start calls windows
+    all-follow (chain recording set) (next recording set) (behindNext recording set) (chain-unfolds recording set)
+    (replyTo set) keptBy endsChain (servedBy set) (Fits recording) (serves recording set) start calls windows
+
+-- What is then still to come.
+pub leaves-rest : LeavesRest
+leaves-rest recording set start calls windows =
+    rest-follows (chain recording set) (next recording set) (behindNext recording set) (chain-unfolds recording set)
+    (replyTo set) keptBy endsChain (servedBy set) (Fits recording) (serves recording set) start calls windows

@@ -1,7 +1,7 @@
 -- Laws of the chain: each entry that is not refused moves the byte place on, so that the chain is one entry and the chain from there on.
 use Prim.Native.Nat.{ℕ, zero, suc, _+_, _*_, _/_, _<_, _≤_}
 use mathlib.Core.Bool.{Bool, true, false, true≢false}
-use mathlib.Core.Path.{_≡_, refl, ap, _∙_}
+use mathlib.Core.Path.{_≡_, refl, ap, sym, _∙_}
 use mathlib.Core.List.{List, [], _∷_}
 use native.Mathlib.Omega.{arith}
 use lib.ListN.{length, drop, length-drop}
@@ -84,13 +84,19 @@ same-chain (suc n) (suc m) recording set k one other =
     same-chain n m recording set (left e)
     (enough-left recording n k (left e) one moves) (enough-left recording m k (left e) other moves)))
 
+-- To allow more entries adds none.
+pub chain-allowed : (n : ℕ) (recording : List ℕ) (set : Settings) (k : Kept) → length recording / 64 + 1 ≤ n
+    → chainOf n recording set k ≡ chain recording set k
+unfolding chain
+chain-allowed n recording set k more =
+    same-chain n (length recording / 64 + 1) recording set k (record { some = omega (arith, more); all = omega (arith, more) })
+    (chain-enough recording k)
+
 -- The chain is the next entry and, unless that is refused, the chain from there on.
 pub chain-unfolds : (recording : List ℕ) (set : Settings) (k : Kept)
     → chain recording set k ≡ next recording set k ∷ behind (chain recording set) (next recording set k)
 unfolding chain chainOf
-chain-unfolds recording set k =
-    let n = length recording / 64 + 1 in
-    same-chain n (suc n) recording set k (chain-enough recording k) (record { some = omega arith; all = omega arith })
+chain-unfolds recording set k = sym (chain-allowed (suc (length recording / 64 + 1)) recording set k (omega arith))
 
 -- Where state and list meet refusal 6, that is all of the chain.
 pub chain-six : (recording : List ℕ) (set : Settings) (k : Kept) → unusable (k .state) (k .feeIds) ≡ true

@@ -1,5 +1,5 @@
 -- A list of calls on any reader: its replies, and the runs of entries that a chain is cut into, one for each call.
-use mathlib.Core.Bool.{Bool}
+use mathlib.Core.Bool.{Bool, false, _||_}
 use mathlib.Core.List.{List, [], _∷_}
 use Rattle.basis.specs.Pick.{pick}
 
@@ -7,6 +7,16 @@ use Rattle.basis.specs.Pick.{pick}
 pub record Served (Entry Reply : Type 0) : Type 0 where
   pub reply : Reply
   pub rest : List Entry
+
+-- What is left for the next call once these replies were given.
+unfoldable pub keptAfter : {Kept Reply : Type 0} → (Reply → Kept) → Kept → List Reply → Kept
+keptAfter keptBy k [] = k
+keptAfter keptBy k (r ∷ rs) = keptAfter keptBy (keptBy r) rs
+
+-- Whether one of the replies ends the chain.
+unfoldable pub oneEnds : {Reply : Type 0} → (Reply → Bool) → List Reply → Bool
+oneEnds ends [] = false
+oneEnds ends (r ∷ rs) = ends r || oneEnds ends rs
 
 -- The replies to a list of calls, each given what the one before left, up to and with the one that ends the chain.
 module _ {Kept Call Reply : Type 0} (replyTo : Kept → Call → Reply) (keptBy : Reply → Kept) (ends : Reply → Bool) where

@@ -5,11 +5,13 @@ pub mod Following
 pub mod Calls
 pub mod PacketLists
 -- What is stated.
+pub mod ChainEntries
 pub mod CallsFollow
 pub mod Packets
 pub mod AddedBytes
 -- Why it holds.
 pub mod ChainLaws
+pub mod ChainEntriesLaws
 pub mod WalkLaws
 pub mod FollowingLaws
 pub mod CallsLaws

@@ -6,7 +6,7 @@ use mathlib.Core.Path.{_≡_}
 use mathlib.Core.List.{List, [], _++_}
 use lib.ListN.{length}
 use Rattle.scan_cdp.specs.declared.Settings.{Settings}
-use Rattle.chain.specs.Calls.{Call, Windows, replies, toCome}
+use Rattle.chain.specs.Calls.{Call, Windows, chainEnded, replies, toCome}
 use Rattle.chain.specs.Chain.{Kept, chain}
 use Rattle.chain.specs.PacketLists.{headersOf, matching, noneHeld, packetsIn, packetsOf}
 
@@ -20,6 +20,19 @@ abbrev pub EachOnce : Type 0
 EachOnce =
     (recording : List ℕ) (set : Settings) (start : Kept) (calls : List Call) → Windows recording calls
     → packetsOf (replies set start calls) ++ packetsIn (toCome set start calls (chain recording set start)) ≡ packetsIn (chain recording set start)
+
+-- Both in one line: the headers that the calls hand out, followed by those still to come, are the matching ones that are not refused.
+abbrev pub MatchingInTurn : Type 0
+MatchingInTurn =
+    (recording : List ℕ) (set : Settings) (start : Kept) (calls : List Call) → Windows recording calls
+    → headersOf (packetsOf (replies set start calls)) ++ headersOf (packetsIn (toCome set start calls (chain recording set start)))
+    ≡ matching recording set start
+
+-- Before the refusal that ends the chain none is missing: once it is replied, all of them have been handed out (D3.3).
+abbrev pub NoneMissing : Type 0
+NoneMissing =
+    (recording : List ℕ) (set : Settings) (start : Kept) (calls : List Call) → Windows recording calls
+    → chainEnded (replies set start calls) ≡ true → headersOf (packetsOf (replies set start calls)) ≡ matching recording set start
 
 -- As many calls as the chain has entries reach its end, if none of them is held back (D3.4).
 abbrev pub ReachesEnd : Type 0

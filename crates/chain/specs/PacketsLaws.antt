@@ -3,7 +3,7 @@
 use Prim.Native.Nat.{ℕ, _≤_}
 use mathlib.Core.Bool.{true, false, not, _&&_, false≢true, true≢false}
 use mathlib.Core.Path.{_≡_, refl, ap, sym, _∙_}
-use mathlib.Core.List.{List, [], _∷_, _++_, append-assoc, flatMap}
+use mathlib.Core.List.{List, [], _∷_, _++_, append-assoc, append-nil, flatMap}
 use native.Mathlib.Omega.{arith}
 use borrow.Author.Tests.{not-true}
 use lib.ListN.{length, drop}
@@ -18,13 +18,13 @@ use Rattle.scan_cdp.specs.declared.LoadMarks.{LoadMarks}
 use Rattle.scan_cdp.specs.declared.Settings.{Settings}
 use Rattle.scan_laws.specs.RowLaws.{both}
 use Rattle.scan_laws.specs.StepLaws.{entry-cases, step-cases}
-use Rattle.chain.specs.Calls.{Call, Hold, Reply, Served, Window, along, replyAnswer, examination, examinedBy, examines, free, held, heldBack, keptBy, loadAlong, loadedBy, loads, servedBy, toCome}
+use Rattle.chain.specs.Calls.{Call, Hold, Reply, Served, Window, along, replyAnswer, examination, examinedBy, examines, free, held, heldBack, keptBy, loadAlong, loadedBy, loads, replies, servedBy, toCome}
 use Rattle.chain.specs.CallsLaws.{held-cases}
 use Rattle.chain.specs.Chain.{Kept, chain, isRefused, left, next, placeOf}
-use Rattle.chain.specs.CallsFollowLaws.{calls-follow}
+use Rattle.chain.specs.CallsFollowLaws.{calls-follow, leaves-rest}
 use Rattle.chain.specs.Following.{cutInto, leftOver}
 use Rattle.chain.specs.PacketLists.{Packet, headersOf, isHeld, matchIn, matching, noneHeld, packetIn, packetsIn, packetsOf}
-use Rattle.chain.specs.Packets.{EachOnce, ExactlyMatching, ReachesEnd}
+use Rattle.chain.specs.Packets.{EachOnce, ExactlyMatching, MatchingInTurn, NoneMissing, ReachesEnd}
 use Rattle.chain.specs.Walk.{headerAt}
 use Rattle.chain.specs.WalkLaws.{entries-collected, same-collected}
 
@@ -138,6 +138,22 @@ exactly-matching recording set start =
     ∙ entries-collected headersIn recording set start
     ∙ same-collected (λ m. headersIn (m .entry)) (matchIn set) recording set start (λ k.
     header-told set (headerAt recording k) (next recording set k .answer) (next-tells recording set k))
+
+-- ---- the matching headers, each in its turn
+
+pub matching-in-turn : MatchingInTurn
+matching-in-turn recording set start calls windows =
+    sym (headers-both (packetsOf (replies set start calls)) (packetsIn (toCome set start calls (chain recording set start))))
+    ∙ ap headersOf (each-once recording set start calls windows)
+    ∙ exactly-matching recording set start
+
+pub none-missing : NoneMissing
+unfolding flatMap
+none-missing recording set start calls windows end =
+    let headers = headersOf (packetsOf (replies set start calls)) in
+    sym (append-nil headers)
+    ∙ ap (λ (es : List (Entry (List ℕ))). headers ++ headersOf (packetsIn es)) (sym (leaves-rest recording set start calls windows ∙ on _ _ end))
+    ∙ matching-in-turn recording set start calls windows
 
 -- ---- to the chain's end
 

@@ -1,17 +1,30 @@
 -- Demand 3 in one piece, clause by clause. Each part names a statement that stands in a file of its own.
 use Rattle.chain.specs.AddedBytes.{AddedBytes}
-use Rattle.chain.specs.CallsFollow.{CallsFollow}
-use Rattle.chain.specs.Packets.{EachOnce, ExactlyMatching, ReachesEnd}
+use Rattle.chain.specs.CallsFollow.{CallsFollow, LeavesRest}
+use Rattle.chain.specs.ChainEntries.{Allowance, EntryByEntry, RefusedLast}
+use Rattle.chain.specs.Packets.{EachOnce, ExactlyMatching, MatchingInTurn, NoneMissing, ReachesEnd}
 use Rattle.validators.specs.VerdictsLaws.{Follows}
 use Rattle.demand3.specs.MarkedCases.{AllAgree, marked}
 
 pub record Demand3 : Type 0 where
+  -- C1: the chain is the next entry, and the chain from what that one left.
+  pub entries : EntryByEntry
+  -- C3: the last entry of a chain is refused, and no other one is.
+  pub last : RefusedLast
+  -- S11: a chain has length / 64 + 1 entries at most, whatever more it is allowed.
+  pub allowed : Allowance
   -- D3.1: for any list of calls on windows of any recording, the complete replies are the chain's entries, cut into consecutive runs.
   pub calls : CallsFollow
   -- D3.2: the headers that the chain hands out are exactly the matching ones that it does not refuse.
   pub exactly : ExactlyMatching
   -- D3.3: the calls hand out each packet once and in its turn, and leave none out.
   pub each : EachOnce
+  -- D3.2 and D3.3 in one line: the headers that the calls hand out, followed by those still to come, are the matching ones.
+  pub in-turn : MatchingInTurn
+  -- D3.3: once a reply ended the chain nothing is to come, and before that the chain goes on from where the calls left off ..
+  pub rest : LeavesRest
+  -- .. so that, before that refusal, no matching header is missing.
+  pub none-missing : NoneMissing
   -- D3.4: calls that are not held back come to the chain's end.
   pub ends : ReachesEnd
   -- D3.5, D3.6: added bytes change no entry but a closing refusal 1 and a last payload that was cut.

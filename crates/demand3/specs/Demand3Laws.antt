@@ -1,7 +1,8 @@
 -- Proof of demand 3: each part is proved where its statement's laws are.
 use Rattle.chain.specs.AddedBytesLaws.{added-bytes}
-use Rattle.chain.specs.CallsFollowLaws.{calls-follow}
-use Rattle.chain.specs.PacketsLaws.{each-once, exactly-matching, reaches-end}
+use Rattle.chain.specs.CallsFollowLaws.{calls-follow, leaves-rest}
+use Rattle.chain.specs.ChainEntriesLaws.{allowance, entry-by-entry, refused-last}
+use Rattle.chain.specs.PacketsLaws.{each-once, exactly-matching, matching-in-turn, none-missing, reaches-end}
 use Rattle.validators.specs.VerdictsLaws.{follows}
 use Rattle.demand3.specs.Demand3.{Demand3}
 use Rattle.demand3.specs.MarkedCasesLaws.{marked-agree}
@@ -9,9 +10,15 @@ use Rattle.demand3.specs.MarkedCasesLaws.{marked-agree}
 pub demand-3 : Demand3
 demand-3 =
     record {
+      entries = entry-by-entry;
+      last = refused-last;
+      allowed = allowance;
       calls = calls-follow;
       exactly = exactly-matching;
       each = each-once;
+      in-turn = matching-in-turn;
+      rest = leaves-rest;
+      none-missing = none-missing;
       ends = reaches-end;
       added = added-bytes;
       verdicts = follows;
