@@ -3,6 +3,7 @@ use Rattle.chain.specs.AddedBytes.{AddedBytes}
 use Rattle.chain.specs.CallsFollow.{CallsFollow, LeavesRest}
 use Rattle.chain.specs.ChainEntries.{Allowance, EntryByEntry, RefusedLast}
 use Rattle.chain.specs.Packets.{EachOnce, ExactlyMatching, MatchingInTurn, NoneMissing, ReachesEnd}
+use Rattle.validators.specs.VerdictTexts.{TextsLeft}
 use Rattle.validators.specs.VerdictsLaws.{Follows}
 use Rattle.demand3.specs.MarkedCases.{AllAgree, marked}
 
@@ -31,5 +32,7 @@ pub record Demand3 : Type 0 where
   pub added : AddedBytes
   -- D3.7: the replies to any list of checks on one validator follow from its settings and start, the headers and the buffers' lengths.
   pub verdicts : Follows
+  -- D3.7: and checks that are made by their contract give these replies, and leave these texts in the buffers.
+  pub texts : TextsLeft
   -- D3.8: the definitions agree with the starred cases.
   pub cases : AllAgree marked

@@ -3,6 +3,7 @@ use Rattle.chain.specs.AddedBytesLaws.{added-bytes}
 use Rattle.chain.specs.CallsFollowLaws.{calls-follow, leaves-rest}
 use Rattle.chain.specs.ChainEntriesLaws.{allowance, entry-by-entry, refused-last}
 use Rattle.chain.specs.PacketsLaws.{each-once, exactly-matching, matching-in-turn, none-missing, reaches-end}
+use Rattle.validators.specs.VerdictTextsLaws.{texts-left}
 use Rattle.validators.specs.VerdictsLaws.{follows}
 use Rattle.demand3.specs.Demand3.{Demand3}
 use Rattle.demand3.specs.MarkedCasesLaws.{marked-agree}
@@ -22,5 +23,6 @@ demand-3 =
       ends = reaches-end;
       added = added-bytes;
       verdicts = follows;
+      texts = texts-left;
       cases = marked-agree;
     }

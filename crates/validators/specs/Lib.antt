@@ -3,3 +3,5 @@ pub mod Verdict
 pub mod VerdictLaws
 pub mod Verdicts
 pub mod VerdictsLaws
+pub mod VerdictTexts
+pub mod VerdictTextsLaws
