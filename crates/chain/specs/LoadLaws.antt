@@ -8,14 +8,13 @@ use lib.ListN.{length}
 use Rattle.basis.specs.Pick.{by-test, off, on, pick}
 use Rattle.basis.specs.Refusals.{Answer, gives, refuses}
 use Rattle.scan_cdp.specs.Answers.{Found, handed, passed, wants}
-use Rattle.scan_cdp.specs.Loads.{Loaded, eitherInitial, isPassed, loadedFrom, replied, together}
+use Rattle.scan_cdp.specs.Loads.{Loaded, isPassed, loadedFrom, replied, together}
 use Rattle.scan_cdp.specs.Steps.{Entry, noMarks}
 use Rattle.scan_cdp.specs.Windows.{examined}
-use Rattle.scan_cdp.specs.declared.Initial.{Initial}
-use Rattle.scan_cdp.specs.declared.Initial.the-variants as Report
 use Rattle.scan_cdp.specs.declared.LoadMarks.{LoadMarks}
 use Rattle.scan_cdp.specs.declared.Part.{Part}
 use Rattle.scan_cdp.specs.declared.Settings.{Settings}
+use Rattle.scan_laws.specs.LoadRepliesLaws.{no-initial}
 use Rattle.scan_laws.specs.RunLaws.{fewer}
 use Rattle.scan_laws.specs.StepLaws.{examined-passed, shownTo}
 use Rattle.chain.specs.Calls.{Hold, Served, Window, WindowOf, endsChain, entryRead, free, held, heldBack, heldLoad, keptBy, load, loadAlong, loadRead, loadedBy, readFrom}
@@ -25,10 +24,6 @@ use Rattle.chain.specs.ChainLaws.{chain-unfolds}
 use Rattle.chain.specs.ExaminationLaws.{examination-follows, foundBy}
 
 -- ---- marks
-
-no-initial : (i : Initial) → eitherInitial i Report.None ≡ i
-no-initial Report.None = refl
-no-initial (Report.Report trigger format system) = refl
 
 -- An examination that is held back adds no marks.
 together-none : (ms : LoadMarks) → together ms noMarks ≡ ms

@@ -3,6 +3,7 @@ use Rattle.chain.specs.AddedBytes.{AddedBytes}
 use Rattle.chain.specs.CallsFollow.{CallsFollow, LeavesRest}
 use Rattle.chain.specs.ChainEntries.{Allowance, EntryByEntry, RefusedLast}
 use Rattle.chain.specs.Packets.{EachOnce, ExactlyMatching, MatchingInTurn, NoneMissing, ReachesEnd}
+use Rattle.scan_laws.specs.LoadReplies.{LoadsTellAll}
 use Rattle.validators.specs.VerdictTexts.{TextsLeft}
 use Rattle.validators.specs.VerdictsLaws.{Follows}
 use Rattle.demand3.specs.MarkedCases.{AllAgree, marked}
@@ -16,6 +17,8 @@ pub record Demand3 : Type 0 where
   pub allowed : Allowance
   -- D3.1: for any list of calls on windows of any recording, the complete replies are the chain's entries, cut into consecutive runs.
   pub calls : CallsFollow
+  -- L2: a load replies what the last examination of its call replies, with the marks of all of them; only the first can be initial.
+  pub marks : LoadsTellAll
   -- D3.2: the headers that the chain hands out are exactly the matching ones that it does not refuse.
   pub exactly : ExactlyMatching
   -- D3.3: the calls hand out each packet once and in its turn, and leave none out.

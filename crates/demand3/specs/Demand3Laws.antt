@@ -3,6 +3,7 @@ use Rattle.chain.specs.AddedBytesLaws.{added-bytes}
 use Rattle.chain.specs.CallsFollowLaws.{calls-follow, leaves-rest}
 use Rattle.chain.specs.ChainEntriesLaws.{allowance, entry-by-entry, refused-last}
 use Rattle.chain.specs.PacketsLaws.{each-once, exactly-matching, matching-in-turn, none-missing, reaches-end}
+use Rattle.scan_laws.specs.LoadRepliesLaws.{loads-tell-all}
 use Rattle.validators.specs.VerdictTextsLaws.{texts-left}
 use Rattle.validators.specs.VerdictsLaws.{follows}
 use Rattle.demand3.specs.Demand3.{Demand3}
@@ -15,6 +16,7 @@ demand-3 =
       last = refused-last;
       allowed = allowance;
       calls = calls-follow;
+      marks = loads-tell-all;
       exactly = exactly-matching;
       each = each-once;
       in-turn = matching-in-turn;

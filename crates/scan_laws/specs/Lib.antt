@@ -6,3 +6,5 @@ pub mod WindowLaws
 pub mod StepLaws
 pub mod RunLaws
 pub mod LoadTurnLaws
+pub mod LoadReplies
+pub mod LoadRepliesLaws

@@ -21,7 +21,7 @@ use Rattle.scan_laws.specs.OutcomeLaws.{GoodOffset, Known, NotTaken, Tak
 use Rattle.scan_laws.specs.RowLaws.{RefusedNumber, answer-as, answer-cases, both, place-moves}
 use Rattle.scan_laws.specs.Runs.{closes, isRefusal, isWant}
 use Rattle.scan_laws.specs.WindowLaws.{examined-header, examined-short, refused-6}
-use Rattle.scan_cdp.specs.Steps.{Entry, answerIn, ended, entryAt, entryOf, limit, noMarks, placeAfter, placesListed, progressAfter}
+use Rattle.scan_cdp.specs.Steps.{Entry, answerIn, ended, entryAt, entryOf, isFirst, limit, loadAfter, noMarks, placeAfter, placesListed, progressAfter}
 use Rattle.scan_cdp.specs.Steps.{payloadOf, startOf, step, outcomeIn, unchanged, unusable, usedListed}
 use Rattle.scan_cdp.specs.Outcomes.{feeId, offset, payloadSize}
 use Rattle.scan_cdp.specs.Windows.{examined, located, outside, placed, shown, wanting}
@@ -254,6 +254,7 @@ pub record PassedOn (s : State) (feeIds w : List ℕ) (first : ℕ) (e : Entry P
   pub links-used : e .state .progress .«links_used» ≤ length (e .state .links)
   pub fee-ids-used : e .state .progress .«fee_ids_used» ≤ length (e .feeIds)
   pub once : twice (take (e .state .progress .«links_used») (e .state .links)) ≡ false
+  pub later : isFirst (e .state .progress .load) ≡ false
 
 entry-passed : (set : Settings) (s : State) (feeIds w : List ℕ) (first : ℕ) (start : ℕ) → Admitted s feeIds w first
     → 64 ≤ length (shownTo s w first)
@@ -283,6 +284,7 @@ entry-passed set s feeIds w first start a long e =
       links-used = order .links-used;
       fee-ids-used = order .fee-ids-used;
       once = order .once;
+      later = ap (λ (u : Outcome). isFirst (loadAfter u (p .load) (p .position))) is;
     }
 
 pub examined-passed : (set : Settings) (s : State) (feeIds w : List ℕ) (first : ℕ) (last : Bool)
