@@ -8,7 +8,7 @@ use lib.ListN.{length}
 use Rattle.basis.specs.Pick.{by-test, pick}
 use Rattle.scan_cdp.specs.Steps.{Entry}
 use Rattle.scan_cdp.specs.declared.Settings.{Settings}
-use Rattle.chain.specs.Chain.{Kept, behind, chain, chainOf, isRefused, left, next}
+use Rattle.chain.specs.Chain.{Kept, chain, chainOf, isRefused, left, next}
 use Rattle.chain.specs.ChainEntries.{Allowance, EntryByEntry, RefusedLast, isNone}
 use Rattle.chain.specs.ChainLaws.{chain-allowed, chain-induction, chain-unfolds}
 

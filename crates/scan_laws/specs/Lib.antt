@@ -8,3 +8,5 @@ pub mod RunLaws
 pub mod LoadTurnLaws
 pub mod LoadReplies
 pub mod LoadRepliesLaws
+pub mod RefusalRows
+pub mod RefusalRowsLaws

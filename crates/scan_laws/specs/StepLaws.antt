@@ -4,11 +4,11 @@ use mathlib.Core.Bool.{Bool, true, false, not, _||_, _&&_, false≢true, true≢
 use mathlib.Core.List.{List, []}
 use mathlib.Core.Path.{_≡_, refl, ap, subst, sym, _∙_}
 use native.Mathlib.Omega.{arith}
-use borrow.Author.Tests.{eqb-false, lt-ltb, ltb-false, ltb-true, ne-eqb, not-true}
+use borrow.Author.Tests.{eqb-false, ltb-false, ltb-true, ne-eqb, not-true}
 use lib.Dec.{ltb}
 use lib.IntN.{ℤ}
 use lib.ListN.{length, take, length-drop}
-use Rattle.basis.specs.Pick.{by-test, neither, on, pick}
+use Rattle.basis.specs.Pick.{by-test, neither, on}
 use Rattle.basis.specs.Refusals.{Answer, gives, refuses}
 use Rattle.rdh.specs.declared.rdh_cru.RdhCru.{RdhCru}
 use Rattle.serde_rdh.specs.Layout.{decoded}
@@ -340,13 +340,14 @@ pub record Wanted (s : State) (feeIds : List ℕ) (last : Bool) (e : Entry Part)
   pub same-fee-ids : e .feeIds ≡ feeIds
   pub no-marks : e .marks ≡ noMarks
 
--- What no header is answered with: a want, and refusals 1 and 5.
-record OfHeader (answer : Answer (Found Part)) : Type 0 where
-  no-want : isWant answer ≡ false
-  no-end : isRefusal 1 answer ≡ false
-  no-skip : isRefusal 5 answer ≡ false
+-- What no header is answered with: a want, and refusals 1, 5 and 6.
+pub record OfHeader (answer : Answer (Found Part)) : Type 0 where
+  pub no-want : isWant answer ≡ false
+  pub no-end : isRefusal 1 answer ≡ false
+  pub no-skip : isRefusal 5 answer ≡ false
+  pub no-six : isRefusal 6 answer ≡ false
 
-entry-answers : (set : Settings) (s : State) (feeIds rest : List ℕ) (end start : ℕ)
+pub entry-answers : (set : Settings) (s : State) (feeIds rest : List ℕ) (end start : ℕ)
     → OfHeader (located start (entryAt set s feeIds rest end) .answer)
 entry-answers set s feeIds rest end start =
     entry-cases set s feeIds rest end (λ a. OfHeader (placed start a))
@@ -355,9 +356,10 @@ entry-answers set s feeIds rest end start =
       no-want = refl;
       no-end = ne-eqb number 1 (λ e. omega (arith, r .least, e));
       no-skip = ne-eqb number 5 (λ e. omega (arith, r .most, e));
+      no-six = ne-eqb number 6 (λ e. omega (arith, r .most, e));
     })
-    (λ other. record { no-want = refl; no-end = refl; no-skip = refl })
-    (λ p same taken. record { no-want = refl; no-end = refl; no-skip = refl })
+    (λ other. record { no-want = refl; no-end = refl; no-skip = refl; no-six = refl })
+    (λ p same taken. record { no-want = refl; no-end = refl; no-skip = refl; no-six = refl })
 
 pub examined-wants : (set : Settings) (s : State) (feeIds w : List ℕ) (first : ℕ) (last : Bool)
     → isWant (examined set s feeIds w first last .answer) ≡ true → Wanted s feeIds last (examined set s feeIds w first last)

@@ -13,7 +13,7 @@ use Rattle.text.specs.Written.{overwritten}
 use Rattle.validators.specs.declared.RdhCruSanityValidator.{RdhCruSanityValidator}
 use Rattle.validators.specs.Verdict.{Checks, Judged, answered, textOf}
 use Rattle.validators.specs.Verdicts.{Reply, replies, reply}
-use Rattle.validators.specs.VerdictTexts.{AllGave, Gave, InTurn, Made, TextsLeft, callOf, isRefused}
+use Rattle.validators.specs.VerdictTexts.{AllGave, Gave, Made, TextsLeft, callOf, isRefused}
 
 -- what a reply says of a buffer
 record Fills (r : Reply) (l m : List ℕ) : Type 0 where
