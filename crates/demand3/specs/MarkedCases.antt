@@ -11,7 +11,7 @@ use Rattle.filter.specs.Filter.{matches}
 use Rattle.filter.specs.declared.FilterTarget.the-variants.{ItsLayerStave}
 use Rattle.filter.specs.declared.Option8.the-variants as Option8
 use Rattle.filter.specs.declared.Option16.the-variants as Option16
-use Rattle.its_names.specs.StaveNames.{Answered}
+use Rattle.its_names.specs.StaveNames.{namedFee}
 use Rattle.rdh.specs.Subfields.{layerOf, staveOf}
 use Rattle.serde_rdh.specs.Layout.{decoded, header}
 use Rattle.scan_cdp.specs.Answers.{Found, handed}
@@ -88,7 +88,7 @@ Agrees (soundness feeId bc trigger reply) =
     soundTo (record { «header_id» = NotSettled; its = false }) (decoded (sample feeId 64 bc trigger)) ≡ reply
 Agrees (fee-id n layer stave) = (layerOf n ≡ layer) × (staveOf n ≡ stave)
 Agrees (stave-filter setting feeId reply) = (link : ℕ) → matches (ItsLayerStave setting) link feeId ≡ reply
-Agrees (name text reply) = (answer : Answer ℕ) → Answered text answer → answer ≡ reply
+Agrees (name text reply) = namedFee text ≡ reply
 
 abbrev pub AllAgree : List Case → Type 0
 AllAgree [] = Unit {0}

@@ -1,12 +1,10 @@
 -- What C is answered about FEE ids and stave names.
 use Prim.Native.Nat.{ℕ}
-use mathlib.Core.Path.{_≡_}
-use mathlib.Core.List.{List, []}
+use mathlib.Core.List.{[]}
 use lib.Dec.{eqb}
 use Rattle.basis.specs.Pick.{pick}
 use Rattle.basis.specs.Refusals.{Answer, gives, refuses}
 use Rattle.rdh.specs.Subfields.{layerOf, staveOf, uplinkOf}
-use Rattle.its_names.specs.StaveNames.{Answered}
 use Rattle.doors_staves.specs.declared.PlainFeeParts.{PlainFeeParts}
 use Rattle.doors_staves.specs.declared.PlainNamed.{PlainNamed}
 
@@ -22,9 +20,3 @@ plainNamed (refuses number values) = record { refusal = number; «fee_id» = 0 }
 -- What that says.
 abbrev pub namedOf : PlainNamed → Answer ℕ
 namedOf n = pick (eqb (n .refusal) 0) (gives (n .«fee_id»)) (refuses (n .refusal) [])
-
--- What is replied to a name: C's struct for the answer that the name has.
-pub record NamedThrough (name : List ℕ) (r : PlainNamed) : Type 0 where
-  pub answer : Answer ℕ
-  pub answered : Answered name answer
-  pub reply : r ≡ plainNamed answer

@@ -1,8 +1,8 @@
 // What C and Python call about FEE ids and stave names, over structs by value that C has too.
 ghost use mathlib.Core.Path.{_≡_};
 ghost use Rattle.its.specs.FeeIds.{feeIdOf, sameStave};
-ghost use Rattle.its_names.specs.StaveNames.{nameAnswer};
-ghost use Rattle.doors_staves.specs.Replies.{NamedThrough, feeParts, plainNamed};
+ghost use Rattle.its_names.specs.StaveNames.{nameAnswer, namedFee};
+ghost use Rattle.doors_staves.specs.Replies.{feeParts, plainNamed};
 use its_names::StaveFeeId;
 
 const NO_REFUSAL: u32 = 0;
@@ -56,7 +56,7 @@ pub extern "C" fn kesarimbu_same_stave(fee_id: u16, other: u16) -> bool
 // The FEE id of the stave that is named.
 #[no_mangle]
 pub extern "C" fn kesarimbu_name(name: &[u8]) -> PlainNamed
-    ensures { λ r. ⌜ NamedThrough (now (name .entry)) r ⌝ }
+    ensures { λ r. ⌜ r ≡ plainNamed (namedFee (now (name .entry))) ⌝ }
 {
     plain_named(its_names::layer_stave_string_to_feeid(name))
 }

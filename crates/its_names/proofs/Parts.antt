@@ -7,12 +7,13 @@ use native.Mathlib.Numerals.{add-one}
 use native.Mathlib.Omega.{arith}
 use lib.ListN.{length, getD, take, drop, length-take}
 use lib.Seq.{split-at, getD-take, getD-drop, getD-append-seam}
-use Rattle.its_names_numbers.specs.Numbers.{Number}
+use Rattle.its_names_numbers.specs.NumberGrammar.{Number}
 use Rattle.its_names_numbers.specs.Parsing.{numberParsed}
 use Rattle.its_names_numbers.specs.declared.ParsedU8.{ParsedU8}
 use Rattle.its_names_numbers.specs.declared.ParsedU8.the-variants as u8
 use Rattle.its_names_numbers.proofs.Slices.{part, to-end}
-use Rattle.its_names.specs.StaveNames.{underscore, Named}
+use Rattle.its_names.specs.StaveNames.{underscore}
+use Rattle.its_names.specs.StaveNameGrammar.{Named}
 use Rattle.its_names.specs.StaveNameLaws.{Without, numbers-of-cut, length-named}
 use Rattle.its_names.specs.Parsing.{nameParsed, startParsed, bothNumbers, FirstUnderscore}
 

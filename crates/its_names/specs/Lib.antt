@@ -1,3 +1,4 @@
 pub mod StaveNames
+pub mod StaveNameGrammar
 pub mod StaveNameLaws
 pub mod Parsing

@@ -7,7 +7,8 @@ use Prim.Native.Nat.{ℕ, _≤_, _<_}
 use lib.ListN.{length, getD}
 use Rattle.its_names_numbers.specs.declared.ParsedU8.{ParsedU8}
 use Rattle.its_names_numbers.specs.declared.ParsedU8.the-variants as u8
-use Rattle.its_names.specs.StaveNames.{Named, underscore}
+use Rattle.its_names.specs.StaveNames.{underscore}
+use Rattle.its_names.specs.StaveNameGrammar.{Named}
 use Rattle.its_names.specs.declared.ParsedName.{ParsedName}
 use Rattle.its_names.specs.declared.ParsedName.the-variants.{Stave, NotAStaveName}
 

@@ -1,14 +1,23 @@
--- Laws of stave names: the grammar is unambiguous, so that each list of bytes has one answer; and the names of E7 and R8 with theirs.
+-- Laws of stave names: `namedFee` gives each name of the grammar its FEE id, and refuses anything else; the grammar is unambiguous; and the
+-- names of E7 and R8 with their answers.
 use mathlib.Core.Path.{_≡_, refl, ap, ap₂, sym, _∙_, subst}
+use mathlib.Core.Bool.{Bool, true, false, _&&_, not, true≢false}
 use mathlib.Core.List.{List, [], _∷_, _++_}
 use Prim.Native.Nat.{ℕ, zero, suc, _+_, _≤_, _<_}
 use native.Mathlib.Omega.{arith}
+use borrow.Author.Tests.{eq-eqb, ne-eqb, eqb-true, eqb-false, lt-ltb, ltb-true, not-true}
+use lib.Dec.{eqb, ltb}
 use lib.ListN.{length, getD, drop, length-append}
+use Rattle.basis.specs.Pick.{on, off, by-test}
 use Rattle.basis.specs.Refusals.{Answer, gives, refuses}
 use Rattle.its.specs.FeeIds.{feeIdOf}
-use Rattle.its_names_numbers.specs.Numbers.{plusSign, Digit, AllDigits, valueOf, Digits, Number, plain, signed}
-use Rattle.its_names_numbers.specs.NumberLaws.{one-number, some-bytes}
-use Rattle.its_names.specs.StaveNames.{underscore, Named, Answered, named, not-named}
+use Rattle.its_names_numbers.specs.Numbers.{plusSign, allDigits, valueOf, digitsNumber, numberOf}
+use Rattle.its_names_numbers.specs.NumberGrammar.{Digits, Number, plain, signed}
+use Rattle.its_names_numbers.specs.NumberLaws.{one-number, some-bytes, number-found, found-number}
+use Rattle.its_names_numbers.specs.declared.ParsedU8.{ParsedU8}
+use Rattle.its_names_numbers.specs.declared.ParsedU8.the-variants as u8
+use Rattle.its_names.specs.StaveNames.{underscore, before, behind, startsName, feeOfNumbers, namedFee}
+use Rattle.its_names.specs.StaveNameGrammar.{Named}
 
 -- No element of the list is x.
 abbrev pub Without : ℕ → List ℕ → Type 0
@@ -54,56 +63,100 @@ pub four-bytes : (name : List ℕ) (layer stave : ℕ) → Named name layer stav
 four-bytes name layer stave r =
     omega (arith, length-named name layer stave r, some-bytes _ layer (r .a-layer), some-bytes _ stave (r .a-stave))
 
--- what is answered to a stave name, and to anything else
-pub named-answer : (name : List ℕ) (answer : Answer ℕ) (layer stave : ℕ) → Answered name answer → Named name layer stave
-    → answer ≡ gives (feeIdOf layer stave)
-named-answer name answer layer stave (named layer′ stave′ r′ e) r =
-    let same = unambiguous name layer′ stave′ layer stave r′ r in
-    e ∙ ap₂ (λ (l s : ℕ). gives (feeIdOf l s)) (same .0) (same .1)
-named-answer name answer layer stave (not-named none e) r = absurd (none layer stave r)
+-- a list that is cut at its first x, and put together again
+pub before-cut : (x : ℕ) (s t : List ℕ) → Without x s → before x (s ++ (x ∷ t)) ≡ s
+unfolding before
+before-cut x [] t w = on _ _ (eq-eqb x x refl)
+before-cut x (y ∷ s) t w =
+    off _ _ (ne-eqb y x (w 0 (omega arith)))
+    ∙ ap (λ (u : List ℕ). y ∷ u) (before-cut x s t (λ k below. w (suc k) (omega arith)))
 
-pub other-answer : (name : List ℕ) (answer : Answer ℕ) → Answered name answer → ((layer stave : ℕ) → Named name layer stave → ⊥)
-    → answer ≡ refuses 8 []
-other-answer name answer (named layer stave r e) none = absurd (none layer stave r)
-other-answer name answer (not-named none′ e) none = e
+pub behind-cut : (x : ℕ) (s t : List ℕ) → Without x s → behind x (s ++ (x ∷ t)) ≡ t
+unfolding behind
+behind-cut x [] t w = on _ _ (eq-eqb x x refl)
+behind-cut x (y ∷ s) t w = off _ _ (ne-eqb y x (w 0 (omega arith))) ∙ behind-cut x s t (λ k below. w (suc k) (omega arith))
 
-pub one-answer : (name : List ℕ) (a b : Answer ℕ) → Answered name a → Answered name b → a ≡ b
-one-answer name a b (named layer stave r e) other = e ∙ sym (named-answer name b layer stave other r)
-one-answer name a b (not-named none e) other = e ∙ sym (other-answer name b other none)
+-- The list is put together of what stands before x, x, and what stands behind it.
+abbrev Joined : ℕ → List ℕ → Type 0
+Joined x s = s ≡ before x s ++ (x ∷ behind x s)
 
--- a FEE id is given for a stave name alone
-pub given-of-name : (name : List ℕ) (id : ℕ) → Answered name (gives id)
-    → (layer : ℕ) × (stave : ℕ) × Named name layer stave × (id ≡ feeIdOf layer stave)
-given-of-name name id (named layer stave r e) = (layer, stave, r, (cc))
-given-of-name name id (not-named none e) =
-    let z : _≡_ {A = ℕ} 0 1 = cc in
-    absurd (omega arith)
+pub cut-joined : (x : ℕ) (s : List ℕ) → 0 < length (behind x s) → Joined x s
+unfolding before behind
+cut-joined x [] some = absurd (omega arith)
+cut-joined x (y ∷ s) some = by-cases (cut-joined x s) (eqb y x) refl
+  where
+    by-cases : (0 < length (behind x s) → Joined x s) → (b : Bool) → eqb y x ≡ b → Joined x (y ∷ s)
+    by-cases rest true e = rw e (ap (λ (z : ℕ). z ∷ s) (eqb-true y x e))
+    by-cases rest false e = rw e (ap (λ (u : List ℕ). y ∷ u) (rest (rw e at some)))
 
-one-more : (digit : ℕ) (text : List ℕ) → Digit digit → AllDigits text → AllDigits (digit ∷ text)
-one-more digit text ok others zero below = ok
-one-more digit text ok others (suc k) below = others k (omega arith)
+-- a name by the grammar has its answer
+pub named-fee : (name : List ℕ) (layer stave : ℕ) → Named name layer stave → namedFee name ≡ gives (feeIdOf layer stave)
+unfolding namedFee
+named-fee name layer stave r =
+    let clean = no-underscore (r .layer-text) layer (r .a-layer) in
+    let layer-found = ap numberOf (before-cut underscore (r .layer-text) (r .stave-text) clean) ∙ number-found _ layer (r .a-layer) in
+    let stave-found = ap numberOf (behind-cut underscore (r .layer-text) (r .stave-text) clean) ∙ number-found _ stave (r .a-stave) in
+    let starts : startsName (r .first) ≡ true =
+    ap₂ (λ (low other : Bool). low && not other) (lt-ltb _ 0x80 (r .below-0x80)) (ne-eqb _ underscore (r .but-underscore)) in
+    ap namedFee (r .parts) ∙ on _ _ starts ∙ ap₂ feeOfNumbers layer-found stave-found
 
-L9-70 : Named (76 ∷ 57 ∷ 95 ∷ 55 ∷ 48 ∷ []) 9 70
-unfolding valueOf
-L9-70 =
-    let none : AllDigits [] = λ k below. absurd (omega arith) in
-    let nine : AllDigits (57 ∷ []) = one-more 57 [] (omega arith) none in
-    let seventy : AllDigits (55 ∷ 48 ∷ []) = one-more 55 (48 ∷ []) (omega arith) (one-more 48 [] (omega arith) none) in
+-- a first byte and two numbers on the sides of the first `_` are a name
+name-of-parts : (first : ℕ) (rest : List ℕ) (layer stave : ℕ) → startsName first ≡ true
+    → Number (before underscore rest) layer → Number (behind underscore rest) stave → Named (first ∷ rest) layer stave
+name-of-parts first rest layer stave starts a-layer a-stave =
+    let tests = both (ltb first 0x80) (not (eqb first underscore)) starts in
     record {
-      first = 76;
-      layer-text = 57 ∷ [];
-      stave-text = 55 ∷ 48 ∷ [];
-      parts = refl;
-      below-0x80 = omega arith;
-      but-underscore = λ e. omega arith;
-      a-layer = plain (record { one-or-more = omega arith; each = nine; spell = refl; at-most = omega arith });
-      a-stave = plain (record { one-or-more = omega arith; each = seventy; spell = refl; at-most = omega arith });
+      first = first;
+      layer-text = before underscore rest;
+      stave-text = behind underscore rest;
+      parts = ap (λ (u : List ℕ). first ∷ u) (cut-joined underscore rest (some-bytes _ stave a-stave));
+      below-0x80 = ltb-true _ _ (tests .0);
+      but-underscore = eqb-false _ _ (not-true _ (tests .1));
+      a-layer = a-layer;
+      a-stave = a-stave;
     }
+  where
+    both : (a b : Bool) → (a && b) ≡ true → (a ≡ true) × (b ≡ true)
+    both true b e = (refl, e)
+    both false b e = absurd (true≢false (sym e))
+
+-- what holds of the FEE id of a name by the grammar, and of refusal 8, holds of every answer
+pub by-answer : (P : Answer ℕ → Type 0) (name : List ℕ) → ((layer stave : ℕ) → Named name layer stave → P (gives (feeIdOf layer stave)))
+    → P (refuses 8 []) → P (namedFee name)
+unfolding namedFee
+by-answer P [] given refused = refused
+by-answer P (first ∷ rest) given refused =
+    by-test P (startsName first) _ _
+    (λ starts. by-numbers starts (numberOf (before underscore rest)) (numberOf (behind underscore rest)) refl refl)
+    (λ starts-ill. refused)
+  where
+    by-numbers : startsName first ≡ true → (layer stave : ParsedU8) → numberOf (before underscore rest) ≡ layer
+        → numberOf (behind underscore rest) ≡ stave → P (feeOfNumbers layer stave)
+    by-numbers starts (u8.Number layer) (u8.Number stave) l s =
+        given layer stave (name-of-parts first rest layer stave starts (found-number _ layer l) (found-number _ stave s))
+    by-numbers starts (u8.Number layer) u8.NotANumber l s = refused
+    by-numbers starts u8.NotANumber stave l s = refused
+
+-- what has a FEE id for an answer is a name by the grammar, of that FEE id
+pub fee-named : (name : List ℕ) (id : ℕ) → namedFee name ≡ gives id
+    → (layer : ℕ) × (stave : ℕ) × Named name layer stave × (id ≡ feeIdOf layer stave)
+fee-named name id =
+    by-answer (λ a. a ≡ gives id → (layer : ℕ) × (stave : ℕ) × Named name layer stave × (id ≡ feeIdOf layer stave)) name
+    (λ layer stave r e. (layer, stave, r, (cc)))
+    (λ e.
+    let z : _≡_ {A = ℕ} 0 1 = cc in
+    absurd (omega arith))
+
+-- what is no name by the grammar is refused
+pub other-refused : (name : List ℕ) → ((layer stave : ℕ) → Named name layer stave → ⊥) → namedFee name ≡ refuses 8 []
+other-refused name none = by-answer (λ a. a ≡ refuses 8 []) name (λ layer stave r. absurd (none layer stave r)) refl
 
 -- the name L9_70 (E7)
-pub L9-70-given : (answer : Answer ℕ) → Answered (76 ∷ 57 ∷ 95 ∷ 55 ∷ 48 ∷ []) answer → answer ≡ gives 0x1006
-L9-70-given answer a = named-answer _ answer 9 70 a L9-70
+pub L9-70-given : namedFee (76 ∷ 57 ∷ 95 ∷ 55 ∷ 48 ∷ []) ≡ gives 0x1006
+unfolding namedFee before behind numberOf digitsNumber allDigits valueOf
+L9-70-given = refl
 
 -- L5 is no stave name (R8)
-pub L5-refused : (answer : Answer ℕ) → Answered (76 ∷ 53 ∷ []) answer → answer ≡ refuses 8 []
-L5-refused answer a = other-answer _ answer a (λ layer stave r. omega (arith, four-bytes _ layer stave r))
+pub L5-refused : namedFee (76 ∷ 53 ∷ []) ≡ refuses 8 []
+unfolding namedFee before behind numberOf digitsNumber allDigits valueOf
+L5-refused = refl

@@ -1,10 +1,15 @@
--- Stave names as lists of bytes, and what is answered to one (N4 to N6, R8).
-use mathlib.Core.Path.{_≡_}
-use mathlib.Core.List.{List, [], _∷_, _++_}
-use Prim.Native.Nat.{ℕ, _<_}
+-- Stave names (N4 to N6, R8): what is answered to a list of bytes, as a function of the bytes. `StaveNameGrammar` has the same rules as a
+-- grammar, and `StaveNameLaws` that the two agree.
+use Prim.Native.Nat.{ℕ}
+use mathlib.Core.Bool.{Bool, _&&_, not}
+use mathlib.Core.List.{List, [], _∷_}
+use lib.Dec.{eqb, ltb}
+use Rattle.basis.specs.Pick.{pick}
 use Rattle.basis.specs.Refusals.{Answer, gives, refuses}
 use Rattle.its.specs.FeeIds.{feeIdOf}
-use Rattle.its_names_numbers.specs.Numbers.{Number}
+use Rattle.its_names_numbers.specs.Numbers.{numberOf}
+use Rattle.its_names_numbers.specs.declared.ParsedU8.{ParsedU8}
+use Rattle.its_names_numbers.specs.declared.ParsedU8.the-variants as u8
 use Rattle.its_names.specs.declared.StaveFeeId.{StaveFeeId}
 use Rattle.its_names.specs.declared.StaveFeeId.the-variants.{FeeId, NotAStaveName}
 
@@ -12,21 +17,31 @@ use Rattle.its_names.specs.declared.StaveFeeId.the-variants.{FeeId, NotA
 abbrev pub underscore : ℕ
 underscore = 95
 
--- The bytes of a stave name, part by part, with the layer and the stave that they name (N4).
-pub record Named (name : List ℕ) (layer stave : ℕ) : Type 0 where
-  pub first : ℕ
-  pub layer-text : List ℕ
-  pub stave-text : List ℕ
-  pub parts : name ≡ first ∷ (layer-text ++ (underscore ∷ stave-text))
-  pub below-0x80 : first < 0x80
-  pub but-underscore : first ≡ underscore → ⊥
-  pub a-layer : Number layer-text layer
-  pub a-stave : Number stave-text stave
+-- What stands before the first x of a list, and what stands behind it. Of a list that has none that is all of it, and nothing.
+unfoldable pub before : ℕ → List ℕ → List ℕ
+before x [] = []
+before x (y ∷ rest) = pick (eqb y x) [] (y ∷ before x rest)
 
--- The answer to a list of bytes: a stave name gives the FEE id of its layer and stave (N6); anything else is refusal 8, with no value.
-pub data Answered (name : List ℕ) (answer : Answer ℕ) : Type 0 where
-  named : (layer stave : ℕ) → Named name layer stave → answer ≡ gives (feeIdOf layer stave) → Answered name answer
-  not-named : ((layer stave : ℕ) → Named name layer stave → ⊥) → answer ≡ refuses 8 [] → Answered name answer
+unfoldable pub behind : ℕ → List ℕ → List ℕ
+behind x [] = []
+behind x (y ∷ rest) = pick (eqb y x) rest (behind x rest)
+
+-- The first byte of a name: below 0x80, but no `_` (N4).
+abbrev pub startsName : ℕ → Bool
+startsName first = ltb first 0x80 && not (eqb first underscore)
+
+-- Two numbers are a layer and a stave, and give their FEE id (N6). Where one of them is no number there is no name (R8).
+abbrev pub feeOfNumbers : ParsedU8 → ParsedU8 → Answer ℕ
+feeOfNumbers (u8.Number layer) (u8.Number stave) = gives (feeIdOf layer stave)
+feeOfNumbers (u8.Number layer) u8.NotANumber = refuses 8 []
+feeOfNumbers u8.NotANumber stave = refuses 8 []
+
+-- The FEE id of the stave that is named: a first byte, the layer up to the first `_`, the stave behind it (N4). Anything else is refusal
+-- 8, with no value.
+unfoldable pub namedFee : List ℕ → Answer ℕ
+namedFee [] = refuses 8 []
+namedFee (first ∷ rest) =
+    pick (startsName first) (feeOfNumbers (numberOf (before underscore rest)) (numberOf (behind underscore rest))) (refuses 8 [])
 
 -- The answer that each case of the code's enum is.
 abbrev pub nameAnswer : StaveFeeId → Answer ℕ

@@ -2,7 +2,7 @@
 ghost use mathlib.Core.Path.{_≡_};
 ghost use Prim.Native.Nat.{_<_};
 ghost use lib.ListN.{length};
-ghost use Rattle.its_names.specs.StaveNames.{Answered, nameAnswer};
+ghost use Rattle.its_names.specs.StaveNames.{nameAnswer, namedFee};
 ghost use Rattle.its_names.specs.Parsing.{nameParsed, startParsed, bothNumbers, FirstUnderscore};
 use its_names_numbers::ParsedU8;
 use its_names_numbers::parse_u8;
@@ -21,7 +21,7 @@ enum ParsedName {
 
 // The FEE id of the stave that is named, as `L5_42`, at uplink 0. A second `_` is refused, which the Rust overlooks.
 pub fn layer_stave_string_to_feeid(name: &[u8]) -> StaveFeeId
-    ensures { λ r. ⌜ Answered (now (name .entry)) (nameAnswer r) ⌝ }
+    ensures { λ r. ⌜ nameAnswer r ≡ namedFee (now (name .entry)) ⌝ }
 {
     match parse_stave_name(name) {
         ParsedName::Stave(layer, stave) => {

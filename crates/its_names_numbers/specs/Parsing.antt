@@ -1,7 +1,7 @@
--- What the parser of numbers finds: the number that a text is, or that it is none (N5).
+-- What a parser of numbers finds: the number that a text is by the grammar, or that it is none. No public contract cites this file.
 use mathlib.Core.List.{List}
 use Prim.Native.Nat.{ℕ}
-use Rattle.its_names_numbers.specs.Numbers.{Digits, Number}
+use Rattle.its_names_numbers.specs.NumberGrammar.{Digits, Number}
 use Rattle.its_names_numbers.specs.declared.ParsedU8.{ParsedU8}
 use Rattle.its_names_numbers.specs.declared.ParsedU8.the-variants as u8
 

@@ -1,8 +1,9 @@
 // The numbers of a stave name.
 ghost use mathlib.Core.Path.{_≡_};
 ghost use Prim.Native.Nat.{_+_, _-_, _*_, _≤_, min};
-ghost use Rattle.its_names_numbers.specs.Numbers.{digit0, Digit};
-ghost use Rattle.its_names_numbers.specs.Parsing.{digitsParsed, numberParsed};
+ghost use Rattle.its_names_numbers.specs.Numbers.{digit0, numberOf};
+ghost use Rattle.its_names_numbers.specs.NumberGrammar.{Digit};
+ghost use Rattle.its_names_numbers.specs.Parsing.{digitsParsed};
 
 // A number of a stave name is at most 255: any larger value is kept as 256.
 const TOO_LARGE: u16 = 256;
@@ -15,7 +16,7 @@ pub enum ParsedU8 {
 
 // A number as Rust's `parse::<u8>` takes it: an optional `+`, then digits.
 pub fn parse_u8(text: &[u8]) -> ParsedU8
-    ensures { λ r. ⌜ numberParsed (now (text .entry)) r ⌝ }
+    ensures { λ r. ⌜ r ≡ numberOf (now (text .entry)) ⌝ }
 {
     if 0 < text.len() {
         if text[0] == b'+' {

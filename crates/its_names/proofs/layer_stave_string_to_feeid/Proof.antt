@@ -1,7 +1,7 @@
 -- The name is parsed, and the FEE id is made of its two numbers.
-use mathlib.Core.Path.{refl, ap, subst}
+use mathlib.Core.Path.{ap, sym, subst, _∙_}
 use Rattle.basis.specs.Refusals.{gives}
-use Rattle.its_names.specs.StaveNames.{named, not-named}
+use Rattle.its_names.specs.StaveNameLaws.{named-fee, other-refused}
 use Rattle.its_names.specs.Parsing.{nameParsed}
 use Rattle.its_names.proofs.layer_stave_string_to_feeid.Statement.{statement}
 use Rattle.its_names.proofs.layer_stave_string_to_feeid.Tie as tie
@@ -21,10 +21,11 @@ enum-told c = c .match .keys2
 returns : tie.Need-returns
 returns c =
     let parsed = c .before .before .before .before .parse-stave-name .ensures in
-    named _ _ (subst (nameParsed _) (c .before .before .layer .given .1) parsed) (ap gives (c .feeid-from-layer-stave .ensures))
+    ap gives (c .feeid-from-layer-stave .ensures)
+    ∙ sym (named-fee _ _ _ (subst (nameParsed _) (c .before .before .layer .given .1) parsed))
 
 returns-2 : tie.Need-returns-2
-returns-2 c = not-named (subst (nameParsed _) (c .enum-told .given .1) (c .before .before .parse-stave-name .ensures)) refl
+returns-2 c = sym (other-refused _ (subst (nameParsed _) (c .enum-told .given .1) (c .before .before .parse-stave-name .ensures)))
 
 pub layer-stave-string-to-feeid-spec : {M : Type 1} → statement M
 layer-stave-string-to-feeid-spec =

@@ -7,7 +7,8 @@ use borrow.Author.Count.{below-more}
 use borrow.Author.Tests.{ltb-true, ltb-false}
 use lib.ListN.{length, getD, take}
 use lib.Seq.{take-all}
-use Rattle.its_names_numbers.specs.Numbers.{Digit, valueOf}
+use Rattle.its_names_numbers.specs.Numbers.{valueOf}
+use Rattle.its_names_numbers.specs.NumberGrammar.{Digit}
 use Rattle.its_names_numbers.proofs.Numbers.{stopped, digit-passed}
 use Rattle.its_names_numbers.proofs.parse_digits.Statement.{statement}
 use Rattle.its_names_numbers.proofs.parse_digits.Tie as tie
