@@ -1,4 +1,5 @@
 pub mod Layout
 pub mod LayoutLaws
+pub mod RoundTripLaws
 pub mod Refusals
 pub mod Words
