@@ -6,7 +6,7 @@ use rdh::rdh_cru::RdhCru;
 use sanity::Criteria;
 
 mod cru;
-mod rdh0;
+pub mod rdh0;
 mod rdh1;
 mod rdh2;
 mod rdh3;

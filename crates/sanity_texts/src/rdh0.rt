@@ -12,7 +12,8 @@ use sanity_pieces::put_header_id;
 use sanity_pieces::put_hex;
 use sanity_pieces::put_reserved0;
 
-pub(crate) fn put(out: &mut [u8], at: usize, criteria: Criteria, rdh0: Rdh0) -> usize
+// The heading and the pieces of what fails; nothing where all is sound.
+pub fn put(out: &mut [u8], at: usize, criteria: Criteria, rdh0: Rdh0) -> usize
     ensures { λ r. ⌜ Put (now (out .entry)) at (section "RDH0: " (rdh0Tests criteria rdh0)) (now (out .exit)) r ⌝ }
 {
     if !fails(criteria, rdh0) {

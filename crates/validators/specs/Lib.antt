@@ -1,5 +1,6 @@
-pub mod TextLengths
+pub mod TextLengthsLaws
 pub mod Verdict
+pub mod JudgesLaws
 pub mod VerdictLaws
 pub mod Verdicts
 pub mod VerdictsLaws

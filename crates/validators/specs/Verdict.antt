@@ -61,16 +61,22 @@ verdictAnswer Sound = gives (record { is-sound = true; text-length = 0 })
 verdictAnswer (NotSound n) = gives (record { is-sound = false; text-length = n })
 verdictAnswer (TooShort n) = refuses 7 (pos n ∷ [])
 
--- What a check answers for a text buffer of a length (V7, R7).
-unfoldable pub answered : RdhCruSanityValidator → RdhCru → ℕ → Answer Judged
-answered v h room =
-    pick (leb (length (textOf v h)) room)
-    (gives (record { is-sound = soundTo v h; text-length = length (textOf v h) }))
-    (refuses 7 (pos (length (textOf v h)) ∷ []))
+-- What a check answers whose header has this text, for a buffer of a length (V7, R7).
+abbrev pub judgedIn : (is-sound : Bool) (text : List ℕ) (room : ℕ) → Answer Judged
+judgedIn is-sound text room =
+    pick (leb (length text) room)
+    (gives (record { is-sound = is-sound; text-length = length text }))
+    (refuses 7 (pos (length text) ∷ []))
 
--- The validator afterwards: refusal 7 settles nothing (V2).
+-- What is kept then: the validator that has settled an ID, or with refusal 7 the one from before, which settles nothing (V2).
+abbrev pub keptIn : {A : Type 0} (text : List ℕ) (room : ℕ) (settled unsettled : A) → A
+keptIn text room settled unsettled = pick (leb (length text) room) settled unsettled
+
+unfoldable pub answered : RdhCruSanityValidator → RdhCru → ℕ → Answer Judged
+answered v h room = judgedIn (soundTo v h) (textOf v h) room
+
 unfoldable pub validatorAfter : RdhCruSanityValidator → RdhCru → ℕ → RdhCruSanityValidator
-validatorAfter v h room = pick (leb (length (textOf v h)) room) (settledBy v h) v
+validatorAfter v h room = keptIn (textOf v h) room (settledBy v h) v
 
 -- The contract of a check of the header `h` on the validator `v`, which is lent the buffer `l`: `r` is its reply, and `m` is what it leaves
 -- in the buffer.
@@ -78,3 +84,10 @@ pub record Checks (v : RdhCruSanityValidator) (h : RdhCru) (l : List ℕ) (r : S
   pub verdict : verdictAnswer (r .verdict) ≡ answered v h (length l)
   pub validator : r .validator ≡ validatorAfter v h (length l)
   pub leaves : m ≡ overwritten (textOf v h) l
+
+-- The same of a check on any validator, by the verdict and the text of what is checked: `said` and `kept` are its reply.
+pub record Judges (A : Type 0) (is-sound : Bool) (text : List ℕ) (settled unsettled : A) (l : List ℕ) (said : Verdict) (kept : A)
+    (m : List ℕ) : Type 0 where
+  pub verdict : verdictAnswer said ≡ judgedIn is-sound text (length l)
+  pub validator : kept ≡ keptIn text (length l) settled unsettled
+  pub leaves : m ≡ overwritten text l

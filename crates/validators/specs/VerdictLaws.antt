@@ -2,25 +2,22 @@
 use Prim.Native.Nat.{ℕ, _≤_, _<_}
 use mathlib.Core.Bool.{Bool, true, false, not}
 use mathlib.Core.Path.{_≡_, refl, ap, sym, _∙_}
-use mathlib.Core.List.{List, [], _∷_}
+use mathlib.Core.List.{List, []}
 use native.Mathlib.Omega.{arith}
-use borrow.Author.Tests.{le-leb, lt-leb}
-use lib.IntN.{pos}
 use lib.ListN.{length, length-append}
 use mathlib.Core.Logic.{_↔_}
 use Rattle.basis.specs.Pick.{on, off}
-use Rattle.basis.specs.Refusals.{gives, refuses}
 use Rattle.rdh.specs.declared.rdh_cru.RdhCru.{RdhCru}
 use Rattle.serde_rdh.specs.Layout.{InRange}
 use Rattle.text.specs.Put.{Put}
-use Rattle.text.specs.Written.{overwritten}
-use Rattle.text.specs.WrittenLaws.{fitting}
 use Rattle.validators.specs.declared.RdhCruSanityValidator.{RdhCruSanityValidator}
+use Rattle.validators.specs.declared.SanityCheck.{SanityCheck}
 use Rattle.validators.specs.declared.Verdict.the-variants.{Sound, NotSound, TooShort}
 use Rattle.sanity.specs.declared.Criteria.{Criteria}
 use Rattle.sanity.specs.Tests.{allTests, anyFails, failureText, sound, verdictText}
-use Rattle.validators.specs.TextLengths.{longest-text}
-use Rattle.validators.specs.Verdict.{Checks, answered, criteriaOf, settledBy, soundTo, textOf, validatorAfter}
+use Rattle.validators.specs.TextLengthsLaws.{longest-text}
+use Rattle.validators.specs.JudgesLaws.{judges-sound, judges-too-short, judges-unsound}
+use Rattle.validators.specs.Verdict.{Checks, Judges, answered, criteriaOf, settledBy, soundTo, textOf, validatorAfter}
 
 -- the text of a sound header is empty, and of another the one that names its failures
 pub sound-text : (criteria : Criteria) (h : RdhCru) → sound criteria h ≡ true → verdictText criteria h ≡ []
@@ -55,52 +52,23 @@ suffice criteria h small fits = go (sound criteria h) refl
     go false is = omega (arith, ap length (unsound-text criteria h is), longest-text h fits criteria small)
 
 module _ (v : RdhCruSanityValidator) (h : RdhCru) (l : List ℕ) where
-  -- a text that fits: the verdict, the ID settled, and the text over the buffer's start
-  answered-fitting : length (textOf v h) ≤ length l
-      → answered v h (length l) ≡ gives (record { is-sound = soundTo v h; text-length = length (textOf v h) })
-  unfolding answered
-  answered-fitting fits = on _ _ (le-leb _ _ fits)
+  -- a check that judges by the header's verdict and text
+  checks : (r : SanityCheck) (m : List ℕ) → Judges _ (soundTo v h) (textOf v h) (settledBy v h) v l (r .verdict) (r .validator) m → Checks v h l r m
+  unfolding answered validatorAfter
+  checks r m j = record { verdict = j .verdict; validator = j .validator; leaves = j .leaves }
 
-  after-fitting : length (textOf v h) ≤ length l → validatorAfter v h (length l) ≡ settledBy v h
-  unfolding validatorAfter
-  after-fitting fits = on _ _ (le-leb _ _ fits)
+  pub checks-sound : (w : RdhCruSanityValidator) → w ≡ settledBy v h → soundTo v h ≡ true
+      → Checks v h l (record { verdict = Sound; validator = w }) l
+  unfolding soundTo textOf
+  checks-sound w settles e = checks _ l (judges-sound e (sound-text _ _ e) settles)
 
-module _ (v : RdhCruSanityValidator) (h : RdhCru) (l : List ℕ) (w : RdhCruSanityValidator) (settles : w ≡ settledBy v h) where
-  pub checks-sound : soundTo v h ≡ true → Checks v h l (record { verdict = Sound; validator = w }) l
-  unfolding soundTo textOf overwritten
-  checks-sound e =
-      let text : textOf v h ≡ [] = sound-text _ _ e in
-      let fits : length (textOf v h) ≤ length l = omega (arith, ap length text) in
-      record {
-        verdict =
-            sym (answered-fitting v h l fits
-            ∙ (λ i. gives (record { is-sound = e i; text-length = length (text i) })));
-        validator = settles ∙ sym (after-fitting v h l fits);
-        leaves = sym (ap (λ (t : List ℕ). overwritten t l) text ∙ on _ _ (le-leb 0 (length l) (omega arith)));
-      }
+  pub checks-unsound : {m : List ℕ} {n : ℕ} (w : RdhCruSanityValidator) → w ≡ settledBy v h → soundTo v h ≡ false
+      → length (textOf v h) ≤ length l → Put l 0 (textOf v h) m n → Checks v h l (record { verdict = NotSound n; validator = w }) m
+  checks-unsound w settles e fits p = checks _ _ (judges-unsound e fits p settles)
 
-  pub checks-unsound : {m : List ℕ} {n : ℕ} → soundTo v h ≡ false → length (textOf v h) ≤ length l → Put l 0 (textOf v h) m n
-      → Checks v h l (record { verdict = NotSound n; validator = w }) m
-  checks-unsound {n = n} e fits p =
-      let is : n ≡ length (textOf v h) = omega (arith, p .next, p .room) in
-      record {
-        verdict =
-            sym (answered-fitting v h l fits ∙ (λ i. gives (record { is-sound = e i; text-length = sym is i })));
-        validator = settles ∙ sym (after-fitting v h l fits);
-        leaves = fitting fits p .leaves;
-      }
-
--- a text that does not fit: refusal 7 with its length, nothing settled and nothing written
-pub checks-too-short : (v : RdhCruSanityValidator) (h : RdhCru) (l : List ℕ) {need : ℕ} → need ≡ length (textOf v h) → length l < need
-    → Checks v h l (record { verdict = TooShort need; validator = v }) l
-unfolding answered validatorAfter overwritten
-checks-too-short v h l is short =
-    let longer : length l < length (textOf v h) = omega arith in
-    record {
-      verdict = ap (λ (n : ℕ). refuses 7 (pos n ∷ [])) is ∙ sym (off _ _ (lt-leb _ _ longer));
-      validator = sym (off _ _ (lt-leb _ _ longer));
-      leaves = sym (off _ _ (lt-leb _ _ longer));
-    }
+  pub checks-too-short : {need : ℕ} → need ≡ length (textOf v h) → length l < need
+      → Checks v h l (record { verdict = TooShort need; validator = v }) l
+  checks-too-short is short = checks _ l (judges-too-short is short)
 
 module _ (v : RdhCruSanityValidator) (h : RdhCru) (criteria : Criteria) (its-own : criteria ≡ criteriaOf v h) where
   -- a header is sound where no test fails

@@ -87,7 +87,7 @@ impl RdhCruSanityValidator {
 }
 
 // The header ID that a header with this ID is held to.
-fn expected_id(header_id: HeaderId, id: u8) -> u8
+pub fn expected_id(header_id: HeaderId, id: u8) -> u8
     ensures { λ r. ⌜ r ≡ expectedId «header_id» id ⌝ }
 {
     match header_id {
@@ -98,7 +98,7 @@ fn expected_id(header_id: HeaderId, id: u8) -> u8
 }
 
 // What is settled once a header with this ID has been checked.
-fn settled_id(header_id: HeaderId, id: u8) -> HeaderId
+pub fn settled_id(header_id: HeaderId, id: u8) -> HeaderId
     ensures { λ r. ⌜ r ≡ settledId «header_id» id ⌝ }
 {
     match header_id {

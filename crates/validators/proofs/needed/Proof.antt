@@ -6,7 +6,7 @@ use lib.ListN.{length}
 use Rattle.text.specs.WrittenLaws.{by-measure, holds-longest}
 use Rattle.serde_rdh.proofs.Ranges.{in-range}
 use Rattle.sanity.specs.Tests.{failureText}
-use Rattle.validators.specs.TextLengths.{longest-text}
+use Rattle.validators.specs.TextLengthsLaws.{longest-text}
 use Rattle.validators.proofs.needed.Statement.{statement}
 use Rattle.validators.proofs.needed.Tie as tie
 

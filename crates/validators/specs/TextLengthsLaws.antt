@@ -1,4 +1,4 @@
--- How long a verdict's text can be: 406 bytes (V6).
+-- Laws of the length of a verdict's text: 406 bytes at most, and 174 of RDH0's (V6).
 use Prim.Native.Nat.{ℕ, suc, _+_, _≤_, _<_, _^_}
 use Prim.Native.String.{String}
 use mathlib.Core.Bool.{Bool, true, false}
@@ -7,6 +7,7 @@ use native.Mathlib.Omega.{arith}
 use lib.Bits.{bitAnd, and-le-r}
 use lib.ListN.{length, length-append}
 use Rattle.basis.specs.Pick.{pick}
+use Rattle.rdh.specs.declared.rdh0.Rdh0.{Rdh0}
 use Rattle.rdh.specs.declared.rdh_cru.RdhCru.{RdhCru}
 use Rattle.serde_rdh.specs.Layout.{InRange, span, value}
 use Rattle.serde_rdh.specs.Layout.Field.{header-id, header-size, priority-bit, system-id, rdh0-reserved0, trigger-type, stop-bit, rdh2-reserved0, detector-field, rdh3-reserved0}
@@ -43,34 +44,52 @@ decimal-piece : (label : String) (k n : ℕ) → n < 10 ^ suc k → length (deci
 decimal-piece label k n small =
     omega (arith, length-append (ascii label ++ decimal n) (ascii " "), length-append (ascii label) (decimal n), length-decimal k n small)
 
+-- What the numbers of RDH0 fit.
+pub record Rdh0Fits (w : Rdh0) : Type 0 where
+  pub id : w .«header_id» < 256
+  pub size : w .«header_size» < 256
+  pub priority : w .«priority_bit» < 256
+  pub system : w .«system_id» < 256
+  pub reserved : w .reserved0 < 65536
+
+fee-id-pieces : (fee : ℕ) → length (pieces (feeIdTests fee)) ≤ 51
+unfolding feeIdTests
+fee-id-pieces fee =
+    and-piece _ _ (hex-piece "reserved bits = " 3 (bitAnd fee 0x8CC0) (omega (arith, and-le-r fee 0x8CC0)))
+    (and-piece _ _ (decimal-piece "stave number = " 1 (staveOf fee) (omega arith))
+    (and-piece _ _ (decimal-piece "layer = " 0 (layerOf fee) (omega arith)) no-piece))
+
+fee-id-piece : (fee : ℕ) → length (feeIdTest fee .piece) ≤ 63
+fee-id-piece fee = simp length-append (omega (arith, fee-id-pieces fee))
+
+header-id-piece : (criteria : Criteria) (n : ℕ) → criteria .«header_id» < 256 → n < 256 → length (headerIdTest criteria n .piece) ≤ 30
+header-id-piece criteria n small fits =
+    simp length-append
+    (omega (arith, length-decimal 2 n (omega arith), length-decimal 2 (criteria .«header_id») (omega arith)))
+
+pub rdh0-section : (criteria : Criteria) (w : Rdh0) → criteria .«header_id» < 256 → Rdh0Fits w
+    → length (section "RDH0: " (rdh0Tests criteria w)) ≤ 174
+unfolding rdh0Tests
+rdh0-section criteria w small fits =
+    under "RDH0: " _
+    (and-piece _ _ (header-id-piece criteria (w .«header_id») small (fits .id))
+    (and-piece _ _ (hex-piece "Header size = " 1 (w .«header_size») (omega arith))
+    (and-piece _ _ (fee-id-piece (w .«fee_id» .0))
+    (and-piece _ _ (hex-piece "Priority bit = " 1 (w .«priority_bit») (omega arith))
+    (and-piece _ _ (hex-piece "system_id = " 1 (w .«system_id») (omega arith))
+    (and-piece _ _ (hex-piece "reserved0 = " 3 (w .reserved0) (omega arith)) no-piece))))))
+
 module _ (h : RdhCru) (fits : InRange h) where
-  fee-id-pieces : length (pieces (feeIdTests (h .rdh0 .«fee_id» .0))) ≤ 51
-  unfolding feeIdTests
-  fee-id-pieces =
-      let fee = h .rdh0 .«fee_id» .0 in
-      and-piece _ _ (hex-piece "reserved bits = " 3 (bitAnd fee 0x8CC0) (omega (arith, and-le-r fee 0x8CC0)))
-      (and-piece _ _ (decimal-piece "stave number = " 1 (staveOf fee) (omega arith))
-      (and-piece _ _ (decimal-piece "layer = " 0 (layerOf fee) (omega arith)) no-piece))
-
-  header-id-piece : (criteria : Criteria) → criteria .«header_id» < 256 → length (headerIdTest criteria (h .rdh0 .«header_id») .piece) ≤ 30
+  rdh0-fits : Rdh0Fits (h .rdh0)
   unfolding span value
-  header-id-piece criteria small =
-      simp length-append
-      (omega (arith, length-decimal 2 (h .rdh0 .«header_id») (omega (arith, fits header-id)), length-decimal 2 (criteria .«header_id») (omega arith)))
-
-  fee-id-piece : length (feeIdTest (h .rdh0 .«fee_id» .0) .piece) ≤ 63
-  fee-id-piece = simp length-append (omega (arith, fee-id-pieces))
-
-  rdh0-section : (criteria : Criteria) → criteria .«header_id» < 256 → length (section "RDH0: " (rdh0Tests criteria (h .rdh0))) ≤ 174
-  unfolding rdh0Tests span value
-  rdh0-section criteria small =
-      under "RDH0: " _
-      (and-piece _ _ (header-id-piece criteria small)
-      (and-piece _ _ (hex-piece "Header size = " 1 (h .rdh0 .«header_size») (omega (arith, fits header-size)))
-      (and-piece _ _ fee-id-piece
-      (and-piece _ _ (hex-piece "Priority bit = " 1 (h .rdh0 .«priority_bit») (omega (arith, fits priority-bit)))
-      (and-piece _ _ (hex-piece "system_id = " 1 (h .rdh0 .«system_id») (omega (arith, fits system-id)))
-      (and-piece _ _ (hex-piece "reserved0 = " 3 (h .rdh0 .reserved0) (omega (arith, fits rdh0-reserved0))) no-piece))))))
+  rdh0-fits =
+      record {
+        id = omega (arith, fits header-id);
+        size = omega (arith, fits header-size);
+        priority = omega (arith, fits priority-bit);
+        system = omega (arith, fits system-id);
+        reserved = omega (arith, fits rdh0-reserved0);
+      }
 
   rdh1-section : length (section "RDH1: " (rdh1Tests (h .rdh1))) ≤ 37
   unfolding rdh1Tests span value
@@ -105,4 +124,4 @@ module _ (h : RdhCru) (fits : InRange h) where
   unfolding failureText
   longest-text criteria small =
       simp length-append
-      (omega (arith, rdh0-section criteria small, rdh1-section, rdh2-section, rdh3-section, cru-pieces))
+      (omega (arith, rdh0-section criteria (h .rdh0) small rdh0-fits, rdh1-section, rdh2-section, rdh3-section, cru-pieces))
