@@ -3,6 +3,7 @@
 
     make_cases.py headers SEED COUNT    headers to decode, encode and show, and pairs of them
     make_cases.py verdicts SEED COUNT   verdicts, in sequences of at most 16
+    make_cases.py words SEED COUNT      no lines but the first words of headers, as bytes: each test of RDH0 at its edges, then any
     make_cases.py lengths SEED COUNT    verdicts, rows and trigger texts into buffers of every length near the text's
     make_cases.py fees                  every FEE id, and layers and staves
     make_cases.py names SEED COUNT      stave names and what is none
@@ -92,6 +93,17 @@ def lengths(rng, count):
             print("list", length)
         for length in range(0, 1200, 7):
             print("compare", length)
+
+
+def words(rng, count):
+    """A sound word first, which settles the header ID."""
+    names = FIELDS[:6]
+    changes = [{}, *({name: value} for name in names for value in EDGES[name])]
+    changes += [dict(header_id=8, header_size=1, fee_id=0xFFFF, priority=255, system_id=0, reserved0=0xFFFF)]
+    for _ in range(count):
+        chosen = rng.sample(names, rng.randrange(7))
+        changes += [{name: rng.choice(EDGES[name] + [rng.getrandbits(WIDTHS[name])]) for name in chosen}]
+    sys.stdout.buffer.write(b"".join(header(**changed)[:8] for changed in changes))
 
 
 def fees():
@@ -227,7 +239,7 @@ def carry():
 
 def main(words):
     match words:
-        case ["headers" | "verdicts" | "lengths" | "names" | "triggers" as kind, seed, count]:
+        case ["headers" | "verdicts" | "words" | "lengths" | "names" | "triggers" as kind, seed, count]:
             globals()[kind](random.Random(f"{kind} {seed}"), int(count))
         case ["scans" | "sweeps" as kind, seed]:
             globals()[kind](int(seed))

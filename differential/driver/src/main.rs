@@ -5,6 +5,7 @@ mod lent;
 mod listing;
 mod messages;
 mod placed;
+mod rdh0;
 mod reading;
 mod scan;
 mod timing;
@@ -14,6 +15,7 @@ use std::process::exit;
 
 const USAGE: &str = "usage:
     driver                                        answers the cases on standard input
+    driver rdh0                                   answers the words of eight bytes on standard input
     driver list FILE                              writes the listing of a recording
     driver time-load FILE SKIP STATS BUFFER TIMES times the loads over a recording
     driver time-list FILE BUFFER TIMES            times the listing, written to /dev/null";
@@ -23,6 +25,7 @@ fn main() {
     let words: Vec<&str> = words.iter().map(String::as_str).collect();
     let done = match words[..] {
         [] => cases::answer_all(),
+        ["rdh0"] => rdh0::answer_all(),
         ["list", file] => listing::to_stdout(file),
         ["time-load", file, skip, stats, buffer, times] => timing::loads(file, skip == "1", stats == "1", number(buffer), number(times)),
         ["time-list", file, buffer, times] => timing::listing(file, number(buffer), number(times)),

@@ -1,0 +1,2 @@
+pub mod Rdh0Verdict
+pub mod Rdh0VerdictLaws
