@@ -1,6 +1,6 @@
 -- What a buffer holds of an input, and how it moves on: the window that a scan is lent.
-use Prim.Native.Nat.{ℕ, _+_, _-_, _≤_, min, max}
-use mathlib.Core.Bool.{false}
+use Prim.Native.Nat.{ℕ, _+_, _-_, _≤_, _<_, min, max}
+use mathlib.Core.Bool.{true, false}
 use mathlib.Core.Path.{_≡_}
 use mathlib.Core.List.{List}
 use lib.ListN.{length, take, drop}
@@ -41,25 +41,37 @@ pub record Kept (h : Held) (m : List ℕ) (g : Held) (l : List ℕ) : Type 0 whe
   pub within : g .length ≤ length l
   pub same : take (h .length) l ≡ take (h .length) m
 
--- Reading up to a byte place: what is held starts there, unless the input ends before it.
-abbrev pub Passes : Held → List ℕ → ℕ → List ℕ → Refilled → Type 0
-Passes h m place l Failed = Unit {0}
-Passes h m place l (Window g) =
-    Kept h m g l
-    × (place ≤ h .first .0 → g .first .0 ≡ h .first .0)
-    × (g .last ≡ false → g .first .0 ≡ max place (h .first .0))
+-- What is held ends before the bytes that are wanted from a place on, or before as many of them as the buffer has room for.
+abbrev pub Lacks : Held → (place size : ℕ) → (buffer : List ℕ) → Type 0
+Lacks h place size l = h .first .0 + h .length < max place (h .first .0) + min size (length l)
 
--- Reading until so many bytes are held, or as many as the buffer has room for, unless the input ends before.
-abbrev pub Fills : Held → List ℕ → ℕ → List ℕ → Refilled → Type 0
-Fills h m size l Failed = Unit {0}
-Fills h m size l (Window g) =
-    Kept h m g l × (g .first .0 ≡ h .first .0) × (g .last ≡ false → (h .last ≡ false) × (min size (length l) ≤ g .length))
+-- Reading on from `h`, held in the buffer `m`, until `size` bytes are held from a place on, or as many as the buffer has room for: `g` is held
+-- in `l` then.
+pub record Reads (h : Held) (m : List ℕ) (place size : ℕ) (g : Held) (l : List ℕ) : Type 0 where
+  pub kept : Kept h m g l
+  -- it starts where it started, at the place, or between the two with nothing held
+  pub onward : h .first .0 ≤ g .first .0
+  pub up-to : g .first .0 ≤ max place (h .first .0)
+  pub none-before : g .first .0 < place → g .length ≡ 0
+  -- where the input goes on, all that was wanted is held
+  pub goes-on : g .last ≡ false → (h .last ≡ false) × (g .first .0 ≡ max place (h .first .0)) × (min size (length l) ≤ g .length)
+  -- an end that was not known is met only before what was wanted, and where the buffer has room to read into
+  pub ends : g .last ≡ true → h .last ≡ false → Lacks g place size l × (g .length < length l)
+  -- behind a known end, and where enough is held, nothing is read
+  pub unread-ended : h .last ≡ true → (g ≡ h) × (l ≡ m)
+  pub unread-enough : place ≤ h .first .0 → min size (length l) ≤ h .length → (g ≡ h) × (l ≡ m)
 
--- The contract of reading on: the bytes from the place on are kept, and unless the input ends before, what is held starts at the place and
--- has the size that is wanted. `r` is the reply, and `l` what is left in the buffer.
+-- A read that fails: there was something to read, and what was held stands in the buffer still.
+pub record Fails (h : Held) (m : List ℕ) (place size : ℕ) (l : List ℕ) : Type 0 where
+  pub going-on : h .last ≡ false
+  pub lacking : Lacks h place size l
+  pub same : take (h .length) l ≡ take (h .length) m
+
+abbrev pub ReadsOn : Held → List ℕ → (place size : ℕ) → List ℕ → Refilled → Type 0
+ReadsOn h m place size l Failed = Fails h m place size l
+ReadsOn h m place size l (Window g) = Reads h m place size g l
+
+-- The contract of reading on: the bytes from the place on move to the front, and reading goes on behind them. `r` is the reply, and `l` what
+-- is left in the buffer.
 abbrev pub Shows : Held → List ℕ → (place size : ℕ) → List ℕ → Refilled → Type 0
-Shows h m place size l Failed = Unit {0}
-Shows h m place size l (Window g) =
-    Kept (heldFrom m h place) (slid m h place) g l
-    × (place ≤ heldFrom m h place .first .0 → g .first .0 ≡ heldFrom m h place .first .0)
-    × (g .last ≡ false → (g .first .0 ≡ max place (h .first .0)) × (min size (length l) ≤ g .length))
+Shows h m place size = ReadsOn (heldFrom m h place) (slid m h place) place size

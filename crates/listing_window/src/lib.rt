@@ -3,7 +3,7 @@
 ghost use mathlib.Core.Path.{_≡_};
 ghost use Prim.Native.Nat.{_-_, _≤_, _<_, min};
 ghost use lib.ListN.{length};
-ghost use Rattle.listing_window.specs.Held.{Fills, Passes, Shows, heldFrom, nothing, slid};
+ghost use Rattle.listing_window.specs.Held.{ReadsOn, Shows, heldFrom, nothing, slid};
 use scan_cdp::BytePlace;
 use scan_cdp::LIMIT;
 
@@ -14,7 +14,7 @@ pub struct Held {
     pub last: bool,
 }
 
-// What reading on answers: what is held then, or that a read failed.
+// What reading on answers: what is held then, or that a read failed, or that there is no buffer to read into.
 pub enum Refilled {
     Window(Held),
     Failed,
@@ -82,9 +82,12 @@ fn distance(first: BytePlace, place: BytePlace, length: usize) -> usize
 // Goes on to `place`: skips what a file has before it, and reads and drops what a pipe has. What is held is at the place already, or nothing is held.
 fn pass(fd: i32, buffer: &mut [u8], held: Held, place: BytePlace) -> Refilled
     requires { ⌜ (held .length ≤ length (now buffer)) × (held .first .0 < place .0 → held .length ≡ 0) ⌝ }
-    ensures { λ r. ⌜ Passes held (now (buffer .entry)) (place .0) (now (buffer .exit)) r ⌝ }
+    ensures { λ r. ⌜ ReadsOn held (now (buffer .entry)) (place .0) 0 (now (buffer .exit)) r ⌝ }
 {
     let mut first = held.first.0;
+    if held.last {
+        return Refilled::Window(held);
+    }
     if place.0 <= first {
         return Refilled::Window(held);
     }
@@ -94,6 +97,9 @@ fn pass(fd: i32, buffer: &mut [u8], held: Held, place: BytePlace) -> Refilled
             length: 0,
             last: false,
         });
+    }
+    if buffer.len() < 1 {
+        return Refilled::Failed;
     }
     while first < place.0 {
         let start = 0;
@@ -128,7 +134,7 @@ fn is_skipped(fd: i32, distance: u64) -> bool {
 // Reads behind what is held, until there are `size` bytes, the buffer is full or the input ends.
 fn fill(fd: i32, buffer: &mut [u8], held: Held, size: u64) -> Refilled
     requires { ⌜ held .length ≤ length (now buffer) ⌝ }
-    ensures { λ r. ⌜ Fills held (now (buffer .entry)) size (now (buffer .exit)) r ⌝ }
+    ensures { λ r. ⌜ ReadsOn held (now (buffer .entry)) (held .first .0) size (now (buffer .exit)) r ⌝ }
 {
     let first = held.first;
     let full = buffer.len();

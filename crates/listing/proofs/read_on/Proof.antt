@@ -31,7 +31,7 @@ returns c =
     let args = start .args in
     subst
     (λ (r : Refilled). Shows (args .held) (args .buffer .now) (args .place .0) (args .size) (refilled .refill .last .1 .0) r)
-    (c .before .next .given .1) (refilled .refill .ensures) .0 .within
+    (c .before .next .given .1) (refilled .refill .ensures) .kept .within
 
 same-length-2 : tie.Need-same-length-2
 same-length-2 c = search needs

@@ -5,7 +5,7 @@ use mathlib.Core.Bool.{true≢false}
 use native.Mathlib.Omega.{arith}
 use mathlib.Core.List.{_++_}
 use lib.ListN.{length, take, drop}
-use Rattle.listing_window.specs.HeldLaws.{length-read, read-front}
+use Rattle.listing_window.specs.HeldLaws.{ended-behind, failed-fill, filled, length-read, read-front, still-ended}
 use borrow.Author.Needs.{needs}
 use Rattle.listing_window.proofs.fill.Statement.{statement}
 use Rattle.listing_window.proofs.fill.Tie as tie
@@ -13,6 +13,7 @@ use Rattle.listing_window.proofs.fill.Tie as tie
 abbrev Inv-loop : tie.InvT-loop
 Inv-loop fd buffer₀ size first full wanted held₀ buffer held =
     (length buffer ≡ length buffer₀) × (held₀ ≤ held) × (held ≤ full) × (take held₀ buffer ≡ take held₀ buffer₀)
+    × (wanted ≤ held₀ → (held ≡ held₀) × (buffer ≡ buffer₀))
 
 abbrev μ-loop : tie.MeasureT-loop
 μ-loop fd buffer₀ size first full wanted held₀ buffer held = full - held
@@ -23,10 +24,10 @@ distance-requires c κs = search needs
 returns : tie.Need-returns Inv-loop μ-loop
 returns c =
     let start = c .before .before .before .before in
-    (record { more = omega arith; within = start .pre; same = refl }, refl, λ e. absurd (true≢false (sym (c .if1 .taken) ∙ e)))
+    still-ended (start .args .held) (start .args .buffer .now) (start .args .held .first .0) (start .args .size) (c .if1 .taken) (start .pre) (λ before. absurd (omega arith))
 
 loop-holds : tie.Need-loop-holds Inv-loop μ-loop
-loop-holds c = (refl, omega arith, omega arith, refl)
+loop-holds c = (refl, omega arith, omega arith, refl, λ _. (refl, refl))
 
 sub-read : tie.Need-sub-read Inv-loop μ-loop
 sub-read c = omega arith
@@ -50,7 +51,18 @@ same-length c =
     length-read (turn .loop .buffer) (reading .read .last .1 .0) held size (reading .read .kept .1 .0) ∙ turn .loop .inv .0
 
 returns-2 : tie.Need-returns-2 Inv-loop μ-loop
-returns-2 c = tt
+returns-2 c =
+    let reading = c .before .before .before in
+    let turn = reading .before .before .before in
+    let start = turn .before .before .before .before .before in
+    let l = turn .loop .buffer in
+    let held = turn .loop .length in
+    let size = length (start .args .buffer .now) - held in
+    let same-size = length-read l (reading .read .last .1 .0) held size (reading .read .kept .1 .0) in
+    failed-fill (start .args .held) (start .args .buffer .now) _ (start .args .size) (turn .before .if1 .left)
+    (read-front l (reading .read .last .1 .0 ++ drop size (drop held l)) (start .args .held .length) held (omega arith) (omega arith)
+    ∙ turn .loop .inv .3)
+    (omega (arith, same-size))
 
 sub-count : tie.Need-sub-count Inv-loop μ-loop
 sub-count c = omega arith
@@ -81,17 +93,11 @@ returns-3 c =
     let l = turn .loop .buffer in
     let held = turn .loop .length in
     let size = length (start .args .buffer .now) - held in
-    let same-size = length-read l (reading .read .last .1 .0) held size (reading .read .kept .1 .0) in (
-      record {
-        more = omega arith;
-        within = omega (arith, same-size);
-        same =
-            read-front l (reading .read .last .1 .0 ++ drop size (drop held l)) (start .args .held .length) held (omega arith) (omega arith)
-            ∙ turn .loop .inv .3;
-      },
-      refl,
-      λ e. absurd (true≢false e),
-    )
+    let same-size = length-read l (reading .read .last .1 .0) held size (reading .read .kept .1 .0) in
+    ended-behind (start .args .held) (start .args .buffer .now) _ (start .args .size) (turn .before .if1 .left)
+    (read-front l (reading .read .last .1 .0 ++ drop size (drop held l)) (start .args .held .length) held (omega arith) (omega arith)
+    ∙ turn .loop .inv .3)
+    held (omega arith) (omega (arith, same-size))
 
 add-length : tie.Need-add-length Inv-loop μ-loop
 add-length c = omega arith
@@ -112,6 +118,7 @@ loop-again c =
       omega arith,
       read-front l (reading .read .last .1 .0 ++ drop size (drop held l)) (start .args .held .length) held (omega arith) (omega arith)
           ∙ turn .loop .inv .3,
+      λ enough. absurd (omega arith),
     )
 
 same-length-3 : tie.Need-same-length-3 Inv-loop μ-loop
@@ -119,7 +126,10 @@ same-length-3 c = c .before .loop .inv .0
 
 returns-4 : tie.Need-returns-4 Inv-loop μ-loop
 returns-4 c =
-    (record { more = omega arith; within = omega arith; same = c .before .loop .inv .3 }, refl, λ _. (c .before .before .if1 .left, omega arith))
+    let turn = c .before in
+    let start = turn .before .before .before .before .before in
+    filled (start .args .held) (start .args .buffer .now) (turn .loop .buffer) (start .args .size) (turn .before .if1 .left) (turn .loop .inv .3)
+    (turn .loop .length) (omega arith) (omega arith) (omega arith) (λ enough. turn .loop .inv .4 (omega arith))
 
 pub fill-spec : {M : Type 1} → statement M
 fill-spec =

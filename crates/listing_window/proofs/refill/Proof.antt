@@ -2,7 +2,9 @@
 use mathlib.Core.Path.{ap, _∙_}
 use native.Mathlib.Omega.{arith}
 use lib.ListN.{length}
-use Rattle.listing_window.specs.HeldLaws.{held-none, held-within, reached, read-on}
+use Rattle.listing_window.specs.HeldLaws.{all-read, failed-before, held-none, held-within, reached}
+use Rattle.listing_window.specs.Held as H
+use Rattle.listing_window.specs.Held.{heldFrom}
 use Rattle.listing_window.specs.declared.Held.{Held}
 use borrow.Author.Needs.{needs}
 use Rattle.listing_window.proofs.refill.Statement.{statement}
@@ -35,8 +37,8 @@ fill-requires c κs =
     let slid = passed .before .before .before .before in
     let start = slid .before .before .before in
     let args = start .args in
-    reached (args .held) (args .buffer .now) (args .place .0) _ _ _ (passed .pass .last .1 .0) _ (slid .slide .ensures .0) (slid .slide .ensures .1)
-    (c .before .before .reached .given .1) (passed .pass .ensures) .0 .within
+    reached (args .held) (args .buffer .now) (args .place .0) _ _ (passed .pass .last .1 .0) _ _ (slid .slide .ensures .0) (slid .slide .ensures .1)
+    (c .before .before .reached .given .1) (passed .pass .ensures) .kept .within
 
 enum-told : tie.Need-enum-told
 enum-told c = search needs
@@ -51,9 +53,9 @@ returns c =
     let slid = passed .before .before .before .before in
     let start = slid .before .before .before in
     let args = start .args in
-    read-on (args .held) (args .buffer .now) (args .place .0) (args .size) _ (passed .pass .last .1 .0) (c .before .before .fill .last .1 .0)
-    (c .before .before .fill .result)
-    (reached (args .held) (args .buffer .now) (args .place .0) _ _ _ (passed .pass .last .1 .0) _ (slid .slide .ensures .0) (slid .slide .ensures .1)
+    all-read (heldFrom (args .buffer .now) (args .held) (args .place .0)) (H.slid (args .buffer .now) (args .held) (args .place .0))
+    (args .place .0) (args .size) _ (passed .pass .last .1 .0) (c .before .before .fill .last .1 .0) (c .before .before .fill .result)
+    (reached (args .held) (args .buffer .now) (args .place .0) _ _ (passed .pass .last .1 .0) _ _ (slid .slide .ensures .0) (slid .slide .ensures .1)
     (there .reached .given .1) (passed .pass .ensures))
     (c .before .before .fill .ensures)
 
@@ -61,7 +63,14 @@ same-length-2 : tie.Need-same-length-2
 same-length-2 c = search needs
 
 returns-2 : tie.Need-returns-2
-returns-2 c = search needs
+returns-2 c =
+    let passed = c .before .before .before .before in
+    let slid = passed .before .before .before .before in
+    let start = slid .before .before .before in
+    let args = start .args in
+    failed-before (args .size)
+    (reached (args .held) (args .buffer .now) (args .place .0) _ _ (passed .pass .last .1 .0) _ _ (slid .slide .ensures .0) (slid .slide .ensures .1)
+    (c .enum-told .given .1) (passed .pass .ensures))
 
 pub refill-spec : {M : Type 1} → statement M
 refill-spec =
