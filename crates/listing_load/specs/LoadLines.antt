@@ -11,21 +11,27 @@ use Rattle.validators.specs.Verdict.{settledBy, soundTo}
 use Rattle.validators.specs.declared.RdhCruSanityValidator.{RdhCruSanityValidator}
 use Rattle.scan_cdp.specs.Answers.{Found, handed, passed, wants}
 use Rattle.scan_cdp.specs.Loads.{Loaded}
+use Rattle.scan_cdp.specs.declared.Counts.{Counts}
 use Rattle.scan_cdp.specs.declared.Part.{Part}
 use Rattle.input_scanner.specs.Replies.{loadOf}
 use Rattle.listing_lines.specs.Lines.{lastLines, room}
 use Rattle.listing_packet.specs.Packets.{packetLines}
 use Rattle.listing_load.specs.declared.Listed.{Listed}
 
--- The lines of what a load answered: a packet's, or the last ones with the counts as they stand after the refusal. A want has none.
-abbrev pub linesOf : RdhCruSanityValidator → Answer (Found Part) → Loaded Part → List ℕ
-linesOf v (gives passed) l = []
-linesOf v (gives (handed p)) l = packetLines v (p .position .0) (p .header)
-linesOf v (gives (wants place size)) l = []
-linesOf v (refuses number values) l = lastLines (l .state .progress .counts) number
+-- The lines of an answer: a packet's, or the last ones with the counts as they stand after the refusal. A want has none, and a header that is
+-- passed has none (P2, P3, P5).
+abbrev pub answerLines : {P : Type 0} → RdhCruSanityValidator → Answer (Found P) → Counts → List ℕ
+answerLines v (gives passed) counts = []
+answerLines v (gives (handed p)) counts = packetLines v (p .position .0) (p .header)
+answerLines v (gives (wants place size)) counts = []
+answerLines v (refuses number values) counts = lastLines counts number
 
--- The validator after it: every packet is checked, and nothing else (P3).
-abbrev pub validatorOf : RdhCruSanityValidator → Answer (Found Part) → RdhCruSanityValidator
+-- The lines of what a load answered.
+abbrev pub linesOf : RdhCruSanityValidator → Answer (Found Part) → Loaded Part → List ℕ
+linesOf v answer l = answerLines v answer (l .state .progress .counts)
+
+-- The validator after an answer: every packet is checked, and nothing else (P3).
+abbrev pub validatorOf : {P : Type 0} → RdhCruSanityValidator → Answer (Found P) → RdhCruSanityValidator
 validatorOf v (gives passed) = v
 validatorOf v (gives (handed p)) = settledBy v (p .header)
 validatorOf v (gives (wants place size)) = v

@@ -1,0 +1,2 @@
+pub mod ListingText
+pub mod ListingTextLaws
