@@ -1,31 +1,32 @@
 -- A buffer that is too short is refused; in any other the loop's loads are those of the definition.
-use mathlib.Core.Path.{sym, _∙_}
-use borrow.Author.Tests.{le-ltb, lt-ltb}
-use Rattle.basis.specs.Pick.{off, on}
-use Rattle.listing_batch.specs.ListingLaws.{left-there}
-use Rattle.listing_batch.specs.Listings.{listedInto}
+use Rattle.scan_cdp.specs.Steps.{withLinks}
+use Rattle.listing_batch.specs.ListingLaws.{listed-refused, listed-there}
 use borrow.Author.Needs.{needs}
 use Rattle.listing_batch.proofs.list_loads.Statement.{statement}
 use Rattle.listing_batch.proofs.list_loads.Tie as tie
 
 returns : tie.Need-returns
-unfolding listedInto
-returns c = sym (on _ _ (lt-ltb _ _ (c .if1 .taken)))
+returns c =
+    let args = c .before .before .before .before .args in
+    listed-refused (args .set) (args .validator) (withLinks (args .progress) (args .links .now)) (args .fee-ids .now) (args .window .now)
+    (args .first .0) (args .last) (args .out .now) (c .if1 .taken)
 
 put-loads-requires : tie.Need-put-loads-requires
 put-loads-requires c κs = search needs
 
 same-length : tie.Need-same-length
-same-length c = search needs
+same-length c = c .before .before .before .before .put-loads .kept .1 .1 .1 .1 .0
 
 same-length-2 : tie.Need-same-length-2
-same-length-2 c = search needs
+same-length-2 c = c .before .before .before .before .put-loads .kept .1 .1 .1 .1 .1 .1 .1 .1 .0
 
 returns-2 : tie.Need-returns-2
-unfolding listedInto
 returns-2 c =
     let call = c .before .before .before .before in
-    left-there _ _ _ _ _ _ (call .put-loads .ensures) ∙ sym (off _ _ (le-ltb _ _ (call .before .before .before .before .if1 .left)))
+    let test = call .before .before .before .before in
+    let args = test .before .before .before .before .args in
+    listed-there (args .set) (args .validator) (withLinks (args .progress) (args .links .now)) (args .fee-ids .now) (args .window .now)
+    (args .first .0) (args .last) (args .out .now) (call .put-loads .ensures) (test .if1 .left)
 
 pub list-loads-spec : {M : Type 1} → statement M
 list-loads-spec =
