@@ -5,7 +5,7 @@ use Rattle.chain.specs.ChainEntries.{Allowance, EntryByEntry, RefusedLast}
 use Rattle.chain.specs.Packets.{EachOnce, ExactlyMatching, MatchingInTurn, NoneMissing, ReachesEnd}
 use Rattle.scan_laws.specs.LoadReplies.{LoadsTellAll}
 use Rattle.validators.specs.VerdictTexts.{TextsLeft}
-use Rattle.validators.specs.VerdictsLaws.{Follows}
+use Rattle.validators.specs.Verdicts.{Follows}
 use Rattle.demand3.specs.MarkedCases.{AllAgree, marked}
 
 pub record Demand3 : Type 0 where

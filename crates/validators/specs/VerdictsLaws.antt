@@ -1,4 +1,4 @@
--- Every reply in a list of verdicts follows from the settings, the starting state and the calls up to it (D3.7).
+-- Proof that every reply in a list of verdicts follows from the settings, the starting state and the calls up to it (D3.7).
 use mathlib.Core.Bool.{Bool, true, false}
 use mathlib.Core.Path.{_≡_, refl, ap, _∙_}
 use mathlib.Core.List.{List, [], _∷_, _++_}
@@ -10,15 +10,7 @@ use Rattle.validators.specs.declared.HeaderId.{HeaderId}
 use Rattle.validators.specs.declared.HeaderId.the-variants.{Configured, NotSettled, Settled}
 use Rattle.validators.specs.declared.RdhCruSanityValidator.{RdhCruSanityValidator}
 use Rattle.validators.specs.Verdict.{holding, settledBy, textOf, validatorAfter}
-use Rattle.validators.specs.Verdicts.{Call, Reply, reply, replies, settling, firstSettled, settledOver, validatorOver}
-
--- The statement: in a list of calls, what is answered to a call that stands behind others is the reply of the validator that
--- `validatorOver` makes of the starting one and those others, whatever comes after.
-abbrev pub Follows : Type 0
-Follows =
-    (v : RdhCruSanityValidator) (earlier : List Call) (c : Call) (later : List Call)
-    → replies v (earlier ++ (c ∷ later))
-    ≡ replies v earlier ++ (reply (validatorOver v earlier) c ∷ replies (validatorOver v (earlier ++ (c ∷ []))) later)
+use Rattle.validators.specs.Verdicts.{Call, Follows, Reply, firstSettled, replies, reply, settledOver, settling, validatorOver}
 
 -- the validator as the calls leave it, one after the other
 left : RdhCruSanityValidator → List Call → RdhCruSanityValidator
