@@ -1,19 +1,36 @@
 -- Proofs of the statements on the chain itself, all from the law that it is one entry and what is behind it.
 use Prim.Native.Nat.{ℕ, zero, suc, _+_, _/_, _≤_}
-use mathlib.Core.Bool.{Bool, true, false}
+use mathlib.Core.Bool.{Bool, true, false, not, _&&_}
 use mathlib.Core.Path.{_≡_, refl, ap, subst, sym, _∙_}
 use mathlib.Core.List.{List, [], _∷_, _++_}
 use native.Mathlib.Omega.{arith}
-use lib.ListN.{length}
-use Rattle.basis.specs.Pick.{by-test, pick}
-use Rattle.scan_cdp.specs.Steps.{Entry}
+use borrow.Author.Tests.{le-leb}
+use lib.ListN.{length, drop}
+use Rattle.basis.specs.Pick.{by-test, off, on, pick}
+use Rattle.scan_cdp.specs.Steps.{Entry, ended, unusable}
 use Rattle.scan_cdp.specs.declared.Settings.{Settings}
-use Rattle.chain.specs.Chain.{Kept, chain, chainOf, isRefused, left, next}
-use Rattle.chain.specs.ChainEntries.{Allowance, EntryByEntry, RefusedLast, isNone}
+use Rattle.scan_laws.specs.StepLaws.{entry-cases, step-cases}
+use Rattle.chain.specs.Chain.{Kept, chain, chainOf, isRefused, left, next, placeOf}
+use Rattle.chain.specs.ChainEntries.{Allowance, EntryByEntry, OnlyEntries, RefusedLast, isEntry, isNone}
 use Rattle.chain.specs.ChainLaws.{chain-allowed, chain-induction, chain-unfolds}
 
 pub entry-by-entry : EntryByEntry
 entry-by-entry = chain-unfolds
+
+-- ---- what an entry can be
+
+pub only-entries : OnlyEntries
+unfolding ended
+only-entries recording set k =
+    let rest = drop (placeOf k) recording in
+    step-cases set (k .state) (k .feeIds) rest (length recording) (λ e. isEntry (unusable (k .state) (k .feeIds)) (e .answer) ≡ true)
+    (λ six. on _ _ six)
+    (λ usable short. off _ _ usable)
+    (λ usable whole.
+    entry-cases set (k .state) (k .feeIds) rest (length recording) (λ a. isEntry (unusable (k .state) (k .feeIds)) a ≡ true)
+    (λ number values r.
+    off _ _ usable ∙ (λ i. le-leb 1 number (omega (arith, r .least)) i && le-leb number 4 (r .most) i))
+    (λ other. ap not usable) (λ p same taken. ap not usable))
 
 -- ---- a refused entry is the last
 

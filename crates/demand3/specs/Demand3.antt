@@ -1,7 +1,7 @@
 -- Demand 3 in one piece, clause by clause. Each part names a statement that stands in a file of its own.
 use Rattle.chain.specs.AddedBytes.{AddedBytes}
 use Rattle.chain.specs.CallsFollow.{CallsFollow, LeavesRest}
-use Rattle.chain.specs.ChainEntries.{Allowance, EntryByEntry, RefusedLast}
+use Rattle.chain.specs.ChainEntries.{Allowance, EntryByEntry, OnlyEntries, RefusedLast}
 use Rattle.chain.specs.Packets.{EachOnce, ExactlyMatching, MatchingInTurn, NoneMissing, ReachesEnd}
 use Rattle.scan_laws.specs.LoadReplies.{LoadsTellAll}
 use Rattle.validators.specs.VerdictTexts.{TextsLeft}
@@ -11,6 +11,8 @@ use Rattle.demand3.specs.MarkedCases.{AllAgree, marked}
 pub record Demand3 : Type 0 where
   -- C1: the chain is the next entry, and the chain from what that one left.
   pub entries : EntryByEntry
+  -- C2: an entry is passed, handed out, or refused with 1 to 4 or, where state and list meet it, with 6.
+  pub kinds : OnlyEntries
   -- C3: the last entry of a chain is refused, and no other one is.
   pub last : RefusedLast
   -- S11: a chain has length / 64 + 1 entries at most, whatever more it is allowed.

@@ -1,7 +1,7 @@
 -- Proof of demand 3: each part is proved where its statement's laws are.
 use Rattle.chain.specs.AddedBytesLaws.{added-bytes}
 use Rattle.chain.specs.CallsFollowLaws.{calls-follow, leaves-rest}
-use Rattle.chain.specs.ChainEntriesLaws.{allowance, entry-by-entry, refused-last}
+use Rattle.chain.specs.ChainEntriesLaws.{allowance, entry-by-entry, only-entries, refused-last}
 use Rattle.chain.specs.PacketsLaws.{each-once, exactly-matching, matching-in-turn, none-missing, reaches-end}
 use Rattle.scan_laws.specs.LoadRepliesLaws.{loads-tell-all}
 use Rattle.validators.specs.VerdictTextsLaws.{texts-left}
@@ -13,6 +13,7 @@ pub demand-3 : Demand3
 demand-3 =
     record {
       entries = entry-by-entry;
+      kinds = only-entries;
       last = refused-last;
       allowed = allowance;
       calls = calls-follow;
