@@ -1,5 +1,7 @@
--- The parts of a header's fields that are narrower than a byte or share one (B3, N1).
+-- The parts of a header's fields that are narrower than a byte or share one (B3, N1, G1).
 use Prim.Native.Nat.{ℕ}
+use mathlib.Core.Bool.{Bool}
+use lib.Dec.{eqb}
 use Rattle.basis.specs.Bits.{bits}
 
 -- Stave, layer and uplink of a FEE id (N1).
@@ -29,3 +31,7 @@ bcReservedOf n = bits 12 31 n
 -- Data format, the lowest byte of the eight (B3).
 abbrev pub dataFormatOf : ℕ → ℕ
 dataFormatOf n = bits 0 7 n
+
+-- Whether a trigger type has the bit of a physics trigger (G1).
+abbrev pub isPhtTrigger : ℕ → Bool
+isPhtTrigger n = eqb (bits 4 4 n) 1
