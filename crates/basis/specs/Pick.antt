@@ -1,4 +1,4 @@
--- A choice by a test: the first where the test holds, the second where it fails.
+-- A choice by a test: the first where the test holds, the second where it fails. Its few laws stand below it.
 use mathlib.Core.Path.{_≡_, refl, subst, ap}
 use mathlib.Core.Bool.{Bool, true, false, _||_, true≢false}
 

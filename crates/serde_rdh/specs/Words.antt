@@ -1,4 +1,4 @@
--- A header as the code goes through it: eight words of eight bytes.
+-- A header as the code goes through it: eight words of eight bytes. No public contract cites this file.
 use mathlib.Core.Path.{_≡_}
 use mathlib.Core.List.{List}
 use Prim.Native.Nat.{ℕ}
