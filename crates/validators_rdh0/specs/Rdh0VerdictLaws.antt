@@ -1,6 +1,6 @@
--- Laws of a verdict on RDH0: what is sound has no text, and RDH0 is sound in every header that is.
+-- Laws of a verdict on RDH0: what is sound has no text; RDH0 is sound in every header that is, and settles what the header does.
 use mathlib.Core.Bool.{Bool, true, false, not}
-use mathlib.Core.Path.{_≡_, ap, sym, _∙_}
+use mathlib.Core.Path.{_≡_, refl, ap, sym, _∙_}
 use mathlib.Core.List.{List, [], _++_}
 use borrow.Author.Tests.{not-true}
 use Rattle.basis.specs.Pick.{neither, off}
@@ -12,7 +12,7 @@ use Rattle.sanity.specs.declared.Criteria.{Criteria}
 use Rattle.validators.specs.Verdict as whole
 use Rattle.validators.specs.declared.RdhCruSanityValidator.{RdhCruSanityValidator}
 use Rattle.validators_rdh0.specs.declared.Rdh0Validator.{Rdh0Validator}
-use Rattle.validators_rdh0.specs.Rdh0Verdict.{criteriaOf, soundTo, textOf}
+use Rattle.validators_rdh0.specs.Rdh0Verdict.{criteriaOf, settledBy, soundTo, textOf}
 
 -- The validator of RDH0 with the same settings and the same ID settled.
 abbrev pub forRdh0 : RdhCruSanityValidator → Rdh0Validator
@@ -45,3 +45,8 @@ sound-in-whole v h e =
     -- where none of a list fails, none of its first part does
     passed : (ts us : List Test) → anyFails (ts ++ us) ≡ false → anyFails ts ≡ false
     passed ts us none = neither (anyFails ts) (anyFails us) (sym (any-of-both ts us) ∙ none) .0
+
+-- And what the one settles the other does.
+pub settles-alike : (v : RdhCruSanityValidator) (h : RdhCru) → forRdh0 (whole.settledBy v h) ≡ settledBy (forRdh0 v) (h .rdh0)
+unfolding settledBy whole.settledBy
+settles-alike v h = refl
