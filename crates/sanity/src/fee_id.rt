@@ -1,7 +1,7 @@
 // The tests of a FEE id: reserved bits, stave and layer.
 ghost use mathlib.Core.Path.{_≡_};
 ghost use lib.Bits.{bitAnd};
-ghost use Rattle.sanity.specs.Tests.{anyFails, feeIdTests, layerTest, reservedBitsTest, staveTest};
+ghost use Rattle.sanity.specs.Tests.{layerTest, reservedBitsTest, staveTest};
 use rdh::rdh0::FeeId;
 
 const RESERVED_BITS_MASK: u16 = 0b1000_1100_1100_0000;
@@ -9,14 +9,6 @@ const RESERVED_BITS_MASK: u16 = 0b1000_1100_1100_0000;
 const STAVE_NUMBER_MAX: u8 = 47;
 
 const LAYER_MAX: u8 = 6;
-
-pub fn fails(fee_id: FeeId) -> bool
-    ensures { λ r. ⌜ r ≡ anyFails (feeIdTests («fee_id» .0)) ⌝ }
-{
-    let reserved_bits = reserved_bits_fail(reserved_bits(fee_id));
-    let stave_number = stave_number_fails(fee_id.stave());
-    reserved_bits | stave_number | layer_fails(fee_id.layer())
-}
 
 pub fn reserved_bits(fee_id: FeeId) -> u16
     ensures { λ r. ⌜ r ≡ bitAnd («fee_id» .0) 0x8CC0 ⌝ }

@@ -4,11 +4,11 @@ ghost use Rattle.text.specs.Put.{Put};
 use crate::put_decimal;
 use crate::put_hex;
 use rdh::rdh0::FeeId;
-use sanity::fee_id::fails;
 use sanity::fee_id::layer_fails;
 use sanity::fee_id::reserved_bits;
 use sanity::fee_id::reserved_bits_fail;
 use sanity::fee_id::stave_number_fails;
+use sanity_words::fee_id::fails;
 
 // The pieces of the FEE id's own tests, between brackets.
 pub fn put(out: &mut [u8], at: usize, fee_id: FeeId) -> usize

@@ -3,7 +3,6 @@ ghost use Rattle.sanity.specs.Tests.{rdh0Tests, section};
 ghost use Rattle.text.specs.Put.{Put};
 use rdh::rdh0::Rdh0;
 use sanity::Criteria;
-use sanity::rdh0::fails;
 use sanity::rdh0::header_size_fails;
 use sanity::rdh0::priority_bit_fails;
 use sanity::rdh0::system_id_fails;
@@ -11,6 +10,7 @@ use sanity_pieces::fee_id;
 use sanity_pieces::put_header_id;
 use sanity_pieces::put_hex;
 use sanity_pieces::put_reserved0;
+use sanity_words::rdh0::fails;
 
 // The heading and the pieces of what fails; nothing where all is sound.
 pub fn put(out: &mut [u8], at: usize, criteria: Criteria, rdh0: Rdh0) -> usize

@@ -44,7 +44,7 @@ impl RdhCruSanityValidator {
     {
         let criteria = self.criteria(rdh);
         let settled = self.settled_by(rdh);
-        if !sanity::fails(criteria, rdh) {
+        if !sanity_words::fails(criteria, rdh) {
             return SanityCheck {
                 verdict: Verdict::Sound,
                 validator: settled,
