@@ -3,18 +3,8 @@ use mathlib.Core.Path.{ap, _∙_}
 use Rattle.trigger_stats.specs.Counters.{collected}
 use Rattle.trigger_stats.specs.declared.TriggerStats.{TriggerStats}
 use Rattle.doors_triggers.specs.Plain.{plainCounts}
-use borrow.Author.Needs.{needs}
 use Rattle.doors_triggers.proofs.kesarimbu_count_triggers.Statement.{statement}
 use Rattle.doors_triggers.proofs.kesarimbu_count_triggers.Tie as tie
-
-counts-of-requires : tie.Need-counts-of-requires
-counts-of-requires c κs = search needs
-
-collect-all-requires : tie.Need-collect-all-requires
-collect-all-requires c κs = search needs
-
-plain-counts-requires : tie.Need-plain-counts-requires
-plain-counts-requires c κs = search needs
 
 returns : tie.Need-returns
 returns c =
@@ -24,4 +14,4 @@ returns c =
 
 pub kesarimbu-count-triggers-spec : {M : Type 1} → statement M
 kesarimbu-count-triggers-spec =
-    tie.close (tie.spec counts-of-requires collect-all-requires plain-counts-requires returns)
+    tie.close (tie.spec (λ c κs. tt) (λ c κs. tt) (λ c κs. tt) returns)

@@ -8,15 +8,6 @@ use borrow.Author.Needs.{needs}
 use Rattle.doors_triggers.proofs.kesarimbu_trigger_list.Statement.{statement}
 use Rattle.doors_triggers.proofs.kesarimbu_trigger_list.Tie as tie
 
-counts-of-requires : tie.Need-counts-of-requires
-counts-of-requires c κs = search needs
-
-display-requires : tie.Need-display-requires
-display-requires c κs = search needs
-
-plain-text-requires : tie.Need-plain-text-requires
-plain-text-requires c κs = search needs
-
 same-length : tie.Need-same-length
 same-length c = search needs
 
@@ -34,4 +25,4 @@ returns c =
 pub kesarimbu-trigger-list-spec : {M : Type 1} → statement M
 kesarimbu-trigger-list-spec =
     tie.close
-    (tie.spec counts-of-requires display-requires plain-text-requires same-length returns)
+    (tie.spec (λ c κs. tt) (λ c κs. tt) (λ c κs. tt) same-length returns)

@@ -2,17 +2,14 @@
 use mathlib.Core.Path.{refl}
 use native.Mathlib.Omega.{arith}
 use Rattle.text.specs.PutLaws.{and-then}
+use Rattle.text.specs.PutLaws.{same-length as kept-length}
 use Rattle.sanity.specs.Tests.{test}
 use Rattle.sanity_pieces.specs.PieceLaws.{passed, failed}
-use borrow.Author.Needs.{needs}
 use Rattle.sanity_pieces.proofs.put_decimal.Statement.{statement}
 use Rattle.sanity_pieces.proofs.put_decimal.Tie as tie
 
 returns : tie.Need-returns
 returns c = passed (test (c .before .before .before .args .fails) _) _ _ refl (c .if1 .taken) (omega arith) (omega arith)
-
-same-length : tie.Need-same-length
-same-length c = search needs
 
 returns-2 : tie.Need-returns-2
 returns-2 c =
@@ -31,5 +28,5 @@ put-decimal-spec =
     (λ c κs. tt)
     (λ c κs. tt)
     (λ c κs. tt)
-    same-length
+    (λ c. kept-length (returns-2 c))
     returns-2)

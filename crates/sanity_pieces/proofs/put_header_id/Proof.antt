@@ -2,6 +2,7 @@
 use mathlib.Core.Path.{refl}
 use native.Mathlib.Omega.{arith}
 use Rattle.text.specs.PutLaws.{and-then}
+use Rattle.text.specs.PutLaws.{same-length as kept-length}
 use Rattle.sanity.specs.Tests.{headerIdTest}
 use Rattle.sanity_pieces.specs.PieceLaws.{failed, passed}
 use borrow.Author.Needs.{needs}
@@ -15,9 +16,6 @@ returns c =
 
 cast-put-decimal : tie.Need-cast-put-decimal
 cast-put-decimal c = search needs
-
-same-length : tie.Need-same-length
-same-length c = search needs
 
 returns-2 : tie.Need-returns-2
 returns-2 c =
@@ -46,5 +44,5 @@ put-header-id-spec =
     (λ c κs. tt)
     (λ c. refl)
     (λ c κs. tt)
-    same-length
+    (λ c. kept-length (returns-2 c))
     returns-2)

@@ -2,17 +2,14 @@
 use mathlib.Core.Path.{refl}
 use native.Mathlib.Omega.{arith}
 use Rattle.text.specs.PutLaws.{and-then}
+use Rattle.text.specs.PutLaws.{same-length as kept-length}
 use Rattle.sanity.specs.Tests.{test}
 use Rattle.sanity_pieces.specs.PieceLaws.{passed, failed}
-use borrow.Author.Needs.{needs}
 use Rattle.sanity_pieces.proofs.put_hex.Statement.{statement}
 use Rattle.sanity_pieces.proofs.put_hex.Tie as tie
 
 returns : tie.Need-returns
 returns c = passed (test (c .before .before .before .args .fails) _) _ _ refl (c .if1 .taken) (omega arith) (omega arith)
-
-same-length : tie.Need-same-length
-same-length c = search needs
 
 returns-2 : tie.Need-returns-2
 returns-2 c =
@@ -26,4 +23,4 @@ returns-2 c =
 pub put-hex-spec : {M : Type 1} → statement M
 put-hex-spec =
     tie.close
-    (tie.spec returns (λ c κs. tt) (λ c κs. tt) (λ c κs. tt) same-length returns-2)
+    (tie.spec returns (λ c κs. tt) (λ c κs. tt) (λ c κs. tt) (λ c. kept-length (returns-2 c)) returns-2)

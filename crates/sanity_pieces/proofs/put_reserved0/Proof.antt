@@ -1,13 +1,10 @@
 -- The piece is put where the test fails.
 use mathlib.Core.Path.{refl}
+use Rattle.text.specs.PutLaws.{same-length as kept-length}
 use Rattle.sanity.specs.Tests.{reserved0Test}
 use Rattle.sanity_pieces.specs.PieceLaws.{tested}
-use borrow.Author.Needs.{needs}
 use Rattle.sanity_pieces.proofs.put_reserved0.Statement.{statement}
 use Rattle.sanity_pieces.proofs.put_reserved0.Tie as tie
-
-same-length : tie.Need-same-length
-same-length c = search needs
 
 returns : tie.Need-returns
 returns c =
@@ -22,5 +19,5 @@ put-reserved0-spec =
     (λ c κs. tt)
     (λ c. refl)
     (λ c κs. tt)
-    same-length
+    (λ c. kept-length (returns c))
     returns)

@@ -1,13 +1,10 @@
 -- The title and the five parts, one behind the other.
 use mathlib.Core.Path.{refl}
 use Rattle.text.specs.PutLaws.{and-then}
+use Rattle.text.specs.PutLaws.{same-length as kept-length}
 use Rattle.sanity.specs.Tests.{failureText}
-use borrow.Author.Needs.{needs}
 use Rattle.sanity_texts.proofs.put_text.Statement.{statement}
 use Rattle.sanity_texts.proofs.put_text.Tie as tie
-
-same-length : tie.Need-same-length
-same-length c = search needs
 
 returns : tie.Need-returns
 unfolding failureText
@@ -31,5 +28,5 @@ put-text-spec =
     (λ c κs. tt)
     (λ c κs. tt)
     (λ c κs. tt)
-    same-length
+    (λ c. kept-length (returns c))
     returns)

@@ -2,17 +2,14 @@
 use mathlib.Core.Path.{refl}
 use native.Mathlib.Omega.{arith}
 use Rattle.text.specs.PutLaws.{and-then}
+use Rattle.text.specs.PutLaws.{same-length as kept-length}
 use Rattle.sanity.specs.Tests.{feeIdTest}
 use Rattle.sanity_pieces.specs.PieceLaws.{failed, passed}
-use borrow.Author.Needs.{needs}
 use Rattle.sanity_pieces.proofs.fee_id.put.Statement.{statement}
 use Rattle.sanity_pieces.proofs.fee_id.put.Tie as tie
 
 returns : tie.Need-returns
 returns c = passed (feeIdTest (c .before .before .before .args .fee-id .0)) _ _ (c .before .fails .ensures) (c .if1 .taken) (omega arith) (omega arith)
-
-same-length : tie.Need-same-length
-same-length c = search needs
 
 returns-2 : tie.Need-returns-2
 returns-2 c =
@@ -34,5 +31,5 @@ put-spec =
     (λ c κs. tt)
     (λ c. refl)
     (λ c κs. tt)
-    same-length
+    (λ c. kept-length (returns-2 c))
     returns-2)

@@ -1,6 +1,7 @@
 -- The three pieces, one behind the other, of the numbers that the FEE id gives.
 use mathlib.Core.Path.{refl}
 use Rattle.text.specs.PutLaws.{and-then}
+use Rattle.text.specs.PutLaws.{same-length as kept-length}
 use Rattle.sanity.specs.Tests.{feeIdTests, layerTest, pieces, reservedBitsTest, staveTest}
 use Rattle.sanity_pieces.specs.PieceLaws.{last-piece, renumbered, tested}
 use borrow.Author.Needs.{needs}
@@ -15,9 +16,6 @@ cast-put-decimal c = search needs
 
 cast-put-decimal-2 : tie.Need-cast-put-decimal-2
 cast-put-decimal-2 c = search needs
-
-same-length : tie.Need-same-length
-same-length c = search needs
 
 returns : tie.Need-returns
 unfolding pieces feeIdTests
@@ -52,5 +50,5 @@ put-pieces-spec =
     (λ c. refl)
     cast-put-decimal-2
     (λ c κs. tt)
-    same-length
+    (λ c. kept-length (returns c))
     returns)

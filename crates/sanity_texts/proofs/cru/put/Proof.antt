@@ -1,6 +1,7 @@
 -- The two pieces, one behind the other, of the numbers that the header gives.
 use mathlib.Core.Path.{refl}
 use Rattle.text.specs.PutLaws.{and-then}
+use Rattle.text.specs.PutLaws.{same-length as kept-length}
 use Rattle.sanity.specs.Tests.{cruTests, dataFormatTest, dwTest, pieces}
 use Rattle.sanity_pieces.specs.PieceLaws.{last-piece, renumbered, tested}
 use borrow.Author.Needs.{needs}
@@ -12,9 +13,6 @@ cast-put-hex c = search needs
 
 cast-put-hex-2 : tie.Need-cast-put-hex-2
 cast-put-hex-2 c = search needs
-
-same-length : tie.Need-same-length
-same-length c = search needs
 
 returns : tie.Need-returns
 unfolding pieces cruTests
@@ -40,5 +38,5 @@ put-spec =
     (λ c. refl)
     cast-put-hex-2
     (λ c κs. tt)
-    same-length
+    (λ c. kept-length (returns c))
     returns)

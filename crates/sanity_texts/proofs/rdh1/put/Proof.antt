@@ -2,6 +2,7 @@
 use mathlib.Core.Path.{refl}
 use native.Mathlib.Omega.{arith}
 use Rattle.text.specs.PutLaws.{and-then}
+use Rattle.text.specs.PutLaws.{same-length as kept-length}
 use Rattle.sanity.specs.Tests.{bcTest, pieces, rdh1Tests, reserved0Test}
 use Rattle.sanity_pieces.specs.PieceLaws.{failed, headed, last-piece, passed, renumbered, tested}
 use borrow.Author.Needs.{needs}
@@ -13,9 +14,6 @@ returns c = passed (headed "RDH1: " (rdh1Tests (c .before .before .before .args 
 
 cast-put-hex : tie.Need-cast-put-hex
 cast-put-hex c = search needs
-
-same-length : tie.Need-same-length
-same-length c = search needs
 
 returns-2 : tie.Need-returns-2
 unfolding pieces rdh1Tests
@@ -46,5 +44,5 @@ put-spec =
     (λ c. refl)
     cast-put-hex
     (λ c κs. tt)
-    same-length
+    (λ c. kept-length (returns-2 c))
     returns-2)

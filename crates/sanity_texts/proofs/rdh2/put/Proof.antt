@@ -2,6 +2,7 @@
 use mathlib.Core.Path.{refl}
 use native.Mathlib.Omega.{arith}
 use Rattle.text.specs.PutLaws.{and-then}
+use Rattle.text.specs.PutLaws.{same-length as kept-length}
 use Rattle.sanity.specs.Tests.{pieces, rdh2Tests, stopBitTest, triggerTypeTest}
 use Rattle.sanity_pieces.specs.PieceLaws.{failed, headed, last-piece, passed, tested}
 use borrow.Author.Needs.{needs}
@@ -19,9 +20,6 @@ cast-put-hex c = search needs
 
 cast-put-hex-2 : tie.Need-cast-put-hex-2
 cast-put-hex-2 c = search needs
-
-same-length : tie.Need-same-length
-same-length c = search needs
 
 returns-2 : tie.Need-returns-2
 unfolding pieces rdh2Tests
@@ -57,5 +55,5 @@ put-spec =
     (λ c. refl)
     cast-put-hex-2
     (λ c κs. tt)
-    same-length
+    (λ c. kept-length (returns-2 c))
     returns-2)

@@ -2,6 +2,7 @@
 use mathlib.Core.Path.{refl}
 use native.Mathlib.Omega.{arith}
 use Rattle.text.specs.PutLaws.{and-then}
+use Rattle.text.specs.PutLaws.{same-length as kept-length}
 use Rattle.sanity.specs.Tests.{detectorFieldTest, pieces, rdh3Tests}
 use Rattle.sanity_pieces.specs.PieceLaws.{failed, headed, last-piece, passed, tested}
 use borrow.Author.Needs.{needs}
@@ -16,9 +17,6 @@ cast-put-reserved0 c = search needs
 
 cast-put-hex : tie.Need-cast-put-hex
 cast-put-hex c = search needs
-
-same-length : tie.Need-same-length
-same-length c = search needs
 
 returns-2 : tie.Need-returns-2
 unfolding pieces rdh3Tests
@@ -48,5 +46,5 @@ put-spec =
     (λ c. refl)
     cast-put-hex
     (λ c κs. tt)
-    same-length
+    (λ c. kept-length (returns-2 c))
     returns-2)
