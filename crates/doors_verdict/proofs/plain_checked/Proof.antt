@@ -4,9 +4,6 @@ use borrow.Author.Needs.{needs}
 use Rattle.doors_verdict.proofs.plain_checked.Statement.{statement}
 use Rattle.doors_verdict.proofs.plain_checked.Tie as tie
 
-plain-validator-requires : tie.Need-plain-validator-requires
-plain-validator-requires c κs = search needs
-
 enum-told : tie.Need-enum-told
 enum-told c = search needs
 
@@ -37,7 +34,7 @@ pub plain-checked-spec : {M : Type 1} → statement M
 plain-checked-spec =
     tie.close
     (tie.spec
-    plain-validator-requires
+    (λ c κs. tt)
     enum-told
     enum-known-verdict
     enum-known-verdict-2

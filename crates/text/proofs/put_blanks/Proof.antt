@@ -1,6 +1,5 @@
 -- The blanks from the place up to i have been stored; the loop stops where they all are, or at the buffer's end, behind which
 -- nothing is stored.
-use borrow.Author.Needs.{needs}
 use mathlib.Core.Path.{_≡_, refl, ap, sym, _∙_}
 use mathlib.Core.List.{List}
 use Prim.Native.Nat.{ℕ, suc, _+_, _-_, _≤_, min, max}
@@ -17,12 +16,6 @@ Inv-loop out₀ at n end stop i₀ out i = (at ≤ i) × (i ≤ max at stop) × 
 
 abbrev μ-loop : tie.MeasureT-loop
 μ-loop out₀ at n end stop i₀ out i = stop - i
-
-after-requires : tie.Need-after-requires Inv-loop μ-loop
-after-requires c κs = search needs
-
-least-requires : tie.Need-least-requires Inv-loop μ-loop
-least-requires c κs = search needs
 
 loop-holds : tie.Need-loop-holds Inv-loop μ-loop
 loop-holds c =
@@ -74,8 +67,8 @@ put-blanks-spec =
     (tie.spec
     Inv-loop
     μ-loop
-    after-requires
-    least-requires
+    (λ c κs. tt)
+    (λ c κs. tt)
     loop-holds
     slice-write-out
     add-i

@@ -18,9 +18,6 @@ same-length c = search needs
 returns : tie.Need-returns
 returns c = search needs
 
-after-requires : tie.Need-after-requires
-after-requires c κs = search needs
-
 returns-2 : tie.Need-returns-2
 returns-2 c =
     record {
@@ -31,4 +28,4 @@ returns-2 c =
 
 pub put-byte-spec : {M : Type 1} → statement M
 put-byte-spec =
-    tie.close (tie.spec slice-write-out add-result same-length returns after-requires returns-2)
+    tie.close (tie.spec slice-write-out add-result same-length returns (λ c κs. tt) returns-2)

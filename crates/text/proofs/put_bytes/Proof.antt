@@ -24,9 +24,6 @@ loop-holds c = (omega arith, put-nothing _ _ (omega arith) (omega arith))
 shared-slice-read-b : tie.Need-shared-slice-read-b Inv-loop μ-loop
 shared-slice-read-b c = search needs
 
-put-byte-requires : tie.Need-put-byte-requires Inv-loop μ-loop
-put-byte-requires c κs = search needs
-
 add-i : tie.Need-add-i Inv-loop μ-loop
 add-i c = omega arith
 
@@ -58,7 +55,7 @@ put-bytes-spec =
     μ-loop
     loop-holds
     shared-slice-read-b
-    put-byte-requires
+    (λ c κs. tt)
     add-i
     loop-less
     loop-again

@@ -4,15 +4,6 @@ use borrow.Author.Needs.{needs}
 use Rattle.text_numbers.proofs.put_hex_left.Statement.{statement}
 use Rattle.text_numbers.proofs.put_hex_left.Tie as tie
 
-put-hex-requires : tie.Need-put-hex-requires
-put-hex-requires c κs = search needs
-
-lacking-requires : tie.Need-lacking-requires
-lacking-requires c κs = search needs
-
-put-blanks-requires : tie.Need-put-blanks-requires
-put-blanks-requires c κs = search needs
-
 same-length : tie.Need-same-length
 same-length c = search needs
 
@@ -24,4 +15,4 @@ returns c =
 
 pub put-hex-left-spec : {M : Type 1} → statement M
 put-hex-left-spec =
-    tie.close (tie.spec put-hex-requires lacking-requires put-blanks-requires same-length returns)
+    tie.close (tie.spec (λ c κs. tt) (λ c κs. tt) (λ c κs. tt) same-length returns)

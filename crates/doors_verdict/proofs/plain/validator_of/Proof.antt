@@ -1,13 +1,9 @@
 -- Field by field.
-use borrow.Author.Needs.{needs}
 use Rattle.doors_verdict.proofs.plain.validator_of.Statement.{statement}
 use Rattle.doors_verdict.proofs.plain.validator_of.Tie as tie
-
-header-id-requires : tie.Need-header-id-requires
-header-id-requires c κs = search needs
 
 returns : tie.Need-returns
 returns c = λ i. record { «header_id» = c .header-id .ensures i; its = c .before .args .n .its }
 
 pub validator-of-spec : {M : Type 1} → statement M
-validator-of-spec = tie.close (tie.spec header-id-requires returns)
+validator-of-spec = tie.close (tie.spec (λ c κs. tt) returns)

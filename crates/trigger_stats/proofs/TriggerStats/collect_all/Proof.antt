@@ -26,9 +26,6 @@ mul-collect-stats c = search needs
 shared-slice-read-collect-stats : tie.Need-shared-slice-read-collect-stats Inv-loop μ-loop
 shared-slice-read-collect-stats c = omega arith
 
-collect-stats-requires : tie.Need-collect-stats-requires Inv-loop μ-loop
-collect-stats-requires c κs = search needs
-
 add-i : tie.Need-add-i Inv-loop μ-loop
 add-i c = omega arith
 
@@ -62,7 +59,7 @@ collect-all-spec =
     loop-holds
     mul-collect-stats
     shared-slice-read-collect-stats
-    collect-stats-requires
+    (λ c κs. tt)
     add-i
     loop-less
     loop-again

@@ -8,23 +8,11 @@ use borrow.Author.Needs.{needs}
 use Rattle.validators.proofs.RdhCruSanityValidator.sanity_check.Statement.{statement}
 use Rattle.validators.proofs.RdhCruSanityValidator.sanity_check.Tie as tie
 
-criteria-requires : tie.Need-criteria-requires
-criteria-requires c κs = search needs
-
-settled-by-requires : tie.Need-settled-by-requires
-settled-by-requires c κs = search needs
-
-fails-requires : tie.Need-fails-requires
-fails-requires c κs = search needs
-
 returns : tie.Need-returns
 returns c =
     let args = c .before .before .before .before .before .args in
     checks-sound (args .self) (args .rdh) _ _ (c .before .before .settled-by .ensures)
     (judged (args .self) (args .rdh) _ (c .before .before .before .criteria .ensures) (c .before .fails .ensures) (c .if1 .taken))
-
-needed-requires : tie.Need-needed-requires
-needed-requires c κs = search needs
 
 returns-2 : tie.Need-returns-2
 returns-2 c =
@@ -34,9 +22,6 @@ returns-2 c =
     let unsound = judged (args .self) (args .rdh) _ held-to (test .before .fails .ensures) (test .if1 .left) in
     checks-too-short (args .self) (args .rdh) _
     (c .before .needed .ensures .exact (c .if2 .taken) ∙ ap length (named (args .self) (args .rdh) _ held-to unsound)) (c .if2 .taken)
-
-put-text-requires : tie.Need-put-text-requires
-put-text-requires c κs = search needs
 
 same-length : tie.Need-same-length
 same-length c = search needs
@@ -57,12 +42,12 @@ pub sanity-check-spec : {M : Type 1} → statement M
 sanity-check-spec =
     tie.close
     (tie.spec
-    criteria-requires
-    settled-by-requires
-    fails-requires
+    (λ c κs. tt)
+    (λ c κs. tt)
+    (λ c κs. tt)
     returns
-    needed-requires
+    (λ c κs. tt)
     returns-2
-    put-text-requires
+    (λ c κs. tt)
     same-length
     returns-3)
