@@ -27,7 +27,13 @@ returns-2 c =
     let if-fails = label .before .before .before in
     let args = if-fails .before .before .before .args in
     failed (headerIdTest (args .criteria) (args .header-id)) (if-fails .before .header-id-fails .ensures) (if-fails .if1 .left)
-    (and-then (and-then (and-then (and-then (label .put-bytes .ensures) (id .put-decimal .ensures)) (between .put-bytes2 .ensures)) (held .put-decimal2 .ensures)) (end .put-bytes3 .ensures))
+    (and-then
+    (and-then
+    (and-then
+    (and-then (label .put-bytes .ensures) (id .put-decimal .ensures))
+    (between .put-bytes2 .ensures))
+    (held .put-decimal2 .ensures))
+    (end .put-bytes3 .ensures))
 
 pub put-header-id-spec : {M : Type 1} → statement M
 put-header-id-spec =

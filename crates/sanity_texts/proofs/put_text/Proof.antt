@@ -15,7 +15,15 @@ returns c =
     let rdh1 = rdh2 .before .before .before .before in
     let rdh0 = rdh1 .before .before .before .before in
     let title = rdh0 .before .before .before .before in
-    and-then (and-then (and-then (and-then (and-then (title .put-bytes .ensures) (rdh0 .put .ensures)) (rdh1 .put2 .ensures)) (rdh2 .put3 .ensures)) (rdh3 .put4 .ensures)) (cru .put5 .ensures)
+    and-then
+    (and-then
+    (and-then
+    (and-then
+    (and-then (title .put-bytes .ensures) (rdh0 .put .ensures))
+    (rdh1 .put2 .ensures))
+    (rdh2 .put3 .ensures))
+    (rdh3 .put4 .ensures))
+    (cru .put5 .ensures)
 
 pub put-text-spec : {M : Type 1} → statement M
 put-text-spec =

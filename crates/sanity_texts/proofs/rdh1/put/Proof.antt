@@ -10,7 +10,9 @@ use Rattle.sanity_texts.proofs.rdh1.put.Statement.{statement}
 use Rattle.sanity_texts.proofs.rdh1.put.Tie as tie
 
 returns : tie.Need-returns
-returns c = passed (headed "RDH1: " (rdh1Tests (c .before .before .before .args .rdh1))) _ _ (c .before .fails .ensures) (c .if1 .taken) (omega arith) (omega arith)
+returns c =
+    passed (headed "RDH1: " (rdh1Tests (c .before .before .before .args .rdh1))) _ _
+    (c .before .fails .ensures) (c .if1 .taken) (omega arith) (omega arith)
 
 cast-put-hex : tie.Need-cast-put-hex
 cast-put-hex c = search needs

@@ -7,7 +7,15 @@ use Rattle.sanity_words.proofs.cru.fails.Tie as tie
 
 returns : tie.Need-returns
 unfolding cruTests
-returns c = rw (c .before .before .dw-fails .ensures, c .before .before .before .dw .ensures, c .data-format-fails .ensures, c .before .data-format .ensures) (sym (any-of-2 _ _))
+returns c =
+    let dw = c .before .before in
+    rw (
+      dw .dw-fails .ensures,
+      dw .before .dw .ensures,
+      c .data-format-fails .ensures,
+      c .before .data-format .ensures,
+    )
+    (sym (any-of-2 _ _))
 
 pub fails-spec : {M : Type 1} → statement M
 fails-spec =

@@ -7,7 +7,18 @@ use Rattle.sanity_words.proofs.fee_id.fails.Tie as tie
 
 returns : tie.Need-returns
 unfolding feeIdTests
-returns c = rw (c .before .before .before .before .reserved-bits-fail .ensures, c .before .before .before .before .before .reserved-bits .ensures, c .before .before .stave-number-fails .ensures, c .before .before .before .stave .ensures, c .layer-fails .ensures, c .before .layer .ensures) (sym (any-of-3 _ _ _))
+returns c =
+    let stave = c .before .before in
+    let reserved = stave .before .before in
+    rw (
+      reserved .reserved-bits-fail .ensures,
+      reserved .before .reserved-bits .ensures,
+      stave .stave-number-fails .ensures,
+      stave .before .stave .ensures,
+      c .layer-fails .ensures,
+      c .before .layer .ensures,
+    )
+    (sym (any-of-3 _ _ _))
 
 pub fails-spec : {M : Type 1} → statement M
 fails-spec =

@@ -11,7 +11,18 @@ cast-reserved0-fails c = search needs
 
 returns : tie.Need-returns
 unfolding rdh0Tests
-returns c = rw (c .before .before .before .before .before .before .header-id-fails .ensures, c .before .before .before .before .before .header-size-fails .ensures, c .before .before .before .before .fails .ensures, c .before .before .before .priority-bit-fails .ensures, c .before .before .system-id-fails .ensures, c .reserved0-fails .ensures) (sym (any-of-6 _ _ _ _ _ _))
+returns c =
+    let system-id = c .before .before in
+    let fee-id = system-id .before .before in
+    rw (
+      fee-id .before .before .header-id-fails .ensures,
+      fee-id .before .header-size-fails .ensures,
+      fee-id .fails .ensures,
+      system-id .before .priority-bit-fails .ensures,
+      system-id .system-id-fails .ensures,
+      c .reserved0-fails .ensures,
+    )
+    (sym (any-of-6 _ _ _ _ _ _))
 
 pub fails-spec : {M : Type 1} → statement M
 fails-spec =

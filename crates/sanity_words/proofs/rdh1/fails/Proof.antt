@@ -7,7 +7,15 @@ use Rattle.sanity_words.proofs.rdh1.fails.Tie as tie
 
 returns : tie.Need-returns
 unfolding rdh1Tests
-returns c = rw (c .before .before .reserved0-fails .ensures, c .before .before .before .reserved0 .ensures, c .bc-fails .ensures, c .before .bc .ensures) (sym (any-of-2 _ _))
+returns c =
+    let reserved = c .before .before in
+    rw (
+      reserved .reserved0-fails .ensures,
+      reserved .before .reserved0 .ensures,
+      c .bc-fails .ensures,
+      c .before .bc .ensures,
+    )
+    (sym (any-of-2 _ _))
 
 pub fails-spec : {M : Type 1} → statement M
 fails-spec =

@@ -11,7 +11,13 @@ cast-reserved0-fails c = search needs
 
 returns : tie.Need-returns
 unfolding rdh2Tests
-returns c = rw (c .before .before .reserved0-fails .ensures, c .before .stop-bit-fails .ensures, c .trigger-type-fails .ensures) (sym (any-of-3 _ _ _))
+returns c =
+    rw (
+      c .before .before .reserved0-fails .ensures,
+      c .before .stop-bit-fails .ensures,
+      c .trigger-type-fails .ensures,
+    )
+    (sym (any-of-3 _ _ _))
 
 pub fails-spec : {M : Type 1} → statement M
 fails-spec =
