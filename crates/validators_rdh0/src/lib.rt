@@ -28,7 +28,7 @@ impl Rdh0Validator {
     {
         let criteria = self.criteria(rdh0);
         let settled = self.settled_by(rdh0);
-        if !sanity::rdh0::fails(criteria, rdh0) {
+        if !sanity_words::rdh0::fails(criteria, rdh0) {
             return Rdh0Check {
                 verdict: Verdict::Sound,
                 validator: settled,
