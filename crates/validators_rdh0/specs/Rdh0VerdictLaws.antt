@@ -7,7 +7,7 @@ use Rattle.basis.specs.Pick.{neither, off}
 use Rattle.rdh.specs.declared.rdh0.Rdh0.{Rdh0}
 use Rattle.rdh.specs.declared.rdh_cru.RdhCru.{RdhCru}
 use Rattle.sanity.specs.Tests.{Test, allTests, anyFails, cruTests, rdh0Tests, rdh1Tests, rdh2Tests, rdh3Tests, section, sound}
-use Rattle.sanity.specs.TestsLaws.{any-of-both}
+use Rattle.sanity_words.specs.TestsLaws.{any-of-both}
 use Rattle.sanity.specs.declared.Criteria.{Criteria}
 use Rattle.validators.specs.Verdict as whole
 use Rattle.validators.specs.declared.RdhCruSanityValidator.{RdhCruSanityValidator}
