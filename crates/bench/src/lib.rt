@@ -1,4 +1,11 @@
 // Loads over a recording, for a program in C that times them: nothing is done with a packet but to count it.
+ghost use Prim.Native.Nat.{_-_, _^_};
+ghost use mathlib.Core.Bool.{true};
+ghost use mathlib.Core.Path.{_≡_};
+ghost use Rattle.basis.specs.Pick.{pick};
+ghost use Rattle.scan_cdp.specs.Steps.{newState};
+ghost use Rattle.listing_window.specs.Held.{nothing};
+ghost use Rattle.bench.specs.Counted.{all, packetsFrom, settingsOf};
 use filter::FilterOpt;
 use filter::Option8;
 use filter::Option16;
@@ -9,8 +16,9 @@ use scan_cdp::LoadCdp;
 use scan_cdp::Settings;
 use scan_cdp::State;
 
-// How many packets a recording has. It is read from a file through the window that `buffer` holds; or, if it is `whole`, the buffer is the
-// recording, and nothing is read. There is one call of the load for both, as in a program that uses it.
+// How many packets a recording has, up to the first refusal. It is read from a file through the window that `buffer` holds; or, if it is
+// `whole`, the buffer is the recording, and nothing is read. There is one call of the load for both, as in a program that uses it. Nothing
+// says that an input ends, and a proved loop must: so the turns are counted down, from a number that no run uses up.
 #[no_mangle]
 pub extern "C" fn kesarimbu_load_all(
     fd: i32,
@@ -19,7 +27,10 @@ pub extern "C" fn kesarimbu_load_all(
     fee_ids: &mut [u16],
     skip_payload: bool,
     stats: bool,
-) -> u64 {
+) -> u64
+    ensures { λ r. ⌜ (whole ≡ true
+        → r ≡ packetsFrom (2 ^ 64 - 1) (settingsOf «skip_payload» stats) newState (now («fee_ids» .entry)) (now (buffer .entry))) ⌝ }
+{
     let set = settings(skip_payload, stats);
     let state = State::new();
     let mut progress = state.progress;
@@ -31,9 +42,6 @@ pub extern "C" fn kesarimbu_load_all(
         turns -= 1;
         let start = 0;
         let end = held.length;
-        if buffer.len() < end {
-            return packets;
-        }
         let w = &buffer[start..end];
         let load = input_scanner::load_cdp(
             set,
@@ -46,51 +54,38 @@ pub extern "C" fn kesarimbu_load_all(
         );
         let answer = load.answer;
         progress = load.progress;
-        if is_packet(answer) {
-            packets = std::num::wrapping_add_u64(packets, 1);
-        } else {
-            held = read_on(fd, buffer, held, answer);
+        match answer {
+            LoadCdp::Packet(_) => packets += 1,
+            LoadCdp::Want(place, size) => {
+                let Refilled::Window(next) = listing_window::refill(fd, buffer, held, place, size)
+                else {
+                    return packets;
+                };
+                held = next;
+            }
+            LoadCdp::Refused(_) => return packets,
         }
     }
     packets
 }
 
-fn at_start(whole: bool, length: usize) -> Held {
-    if !whole {
-        return listing_window::empty();
+// The whole recording, or nothing yet.
+fn at_start(whole: bool, length: usize) -> Held
+    ensures { λ r. ⌜ r ≡ pick whole (all length) nothing ⌝ }
+{
+    if whole {
+        return Held {
+            first: BytePlace(0),
+            length,
+            last: true,
+        };
     }
-    Held {
-        first: BytePlace(0),
-        length,
-        last: true,
-    }
+    listing_window::empty()
 }
 
-// The window that a load wants. After a refusal, or where a read fails, it is longer than any buffer, and the loads end.
-fn read_on(fd: i32, buffer: &mut [u8], held: Held, answer: LoadCdp) -> Held {
-    match answer {
-        LoadCdp::Packet(_) => held,
-        LoadCdp::Want(place, size) => refilled(fd, buffer, held, place, size),
-        LoadCdp::Refused(_) => no_window(),
-    }
-}
-
-fn refilled(fd: i32, buffer: &mut [u8], held: Held, place: BytePlace, size: u64) -> Held {
-    match listing_window::refill(fd, buffer, held, place, size) {
-        Refilled::Window(next) => next,
-        Refilled::Failed => no_window(),
-    }
-}
-
-fn no_window() -> Held {
-    Held {
-        first: BytePlace(0),
-        length: usize::MAX,
-        last: true,
-    }
-}
-
-fn settings(skip_payload: bool, stats: bool) -> Settings {
+fn settings(skip_payload: bool, stats: bool) -> Settings
+    ensures { λ r. ⌜ r ≡ settingsOf «skip_payload» stats ⌝ }
+{
     Settings {
         filter: FilterOpt {
             filter_link: Option8::None,
@@ -99,13 +94,5 @@ fn settings(skip_payload: bool, stats: bool) -> Settings {
         },
         skip_payload,
         stats,
-    }
-}
-
-fn is_packet(answer: LoadCdp) -> bool {
-    match answer {
-        LoadCdp::Packet(_) => true,
-        LoadCdp::Want(_, _) => false,
-        LoadCdp::Refused(_) => false,
     }
 }

@@ -259,3 +259,8 @@ pub reached : (h : Held) (m : List ℕ) (place : ℕ) (kept : Held) (front l : L
 reached h m place kept front l r s e f w p =
     subst (λ (t : Refilled). ReadsOn (heldFrom m h place) (slid m h place) place 0 l t) w
     (subst (λ (b : List ℕ). ReadsOn (heldFrom m h place) b place 0 l r) f (subst (λ (k : Held). ReadsOn k front place 0 l r) e p))
+
+-- what is held then stands in the buffer
+pub shown-within : (h : Held) (m : List ℕ) (place size : ℕ) (l : List ℕ) {r : Refilled} {g : Held} → r ≡ Window g → ReadsOn h m place size l r
+    → g .length ≤ length l
+shown-within h m place size l is reads = subst (λ (s : Refilled). ReadsOn h m place size l s) is reads .kept .within

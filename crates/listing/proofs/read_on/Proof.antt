@@ -1,7 +1,5 @@
 -- What is held then stands in the buffer.
-use mathlib.Core.Path.{subst}
-use Rattle.listing_window.specs.Held.{Shows}
-use Rattle.listing_window.specs.declared.Refilled.{Refilled}
+use Rattle.listing_window.specs.HeldLaws.{shown-within}
 use borrow.Author.Needs.{needs}
 use Rattle.listing.proofs.read_on.Statement.{statement}
 use Rattle.listing.proofs.read_on.Tie as tie
@@ -27,11 +25,7 @@ same-length c = search needs
 returns : tie.Need-returns
 returns c =
     let refilled = c .before .before .before .before .before in
-    let start = refilled .before .before .before in
-    let args = start .args in
-    subst
-    (λ (r : Refilled). Shows (args .held) (args .buffer .now) (args .place .0) (args .size) (refilled .refill .last .1 .0) r)
-    (c .before .next .given .1) (refilled .refill .ensures) .kept .within
+    shown-within _ _ _ _ (refilled .refill .last .1 .0) (c .before .next .given .1) (refilled .refill .ensures)
 
 same-length-2 : tie.Need-same-length-2
 same-length-2 c = search needs
