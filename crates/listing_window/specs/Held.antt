@@ -5,13 +5,18 @@ use mathlib.Core.Path.{_≡_}
 use mathlib.Core.List.{List}
 use lib.ListN.{length, take, drop}
 use lib.Seq.{paste}
+use Rattle.scan_cdp.specs.declared.BytePlace.{BytePlace}
 use Rattle.listing_window.specs.declared.Held.{Held}
 use Rattle.listing_window.specs.declared.Refilled.{Refilled}
 use Rattle.listing_window.specs.declared.Refilled.the-variants.{Window, Failed}
 
+-- Nothing is held where the input goes on from a byte place.
+abbrev pub nothingFrom : BytePlace → Held
+nothingFrom first = record { first = first; length = 0; last = false }
+
 -- Nothing was read yet: what is held starts at byte place 0 (W1).
 abbrev pub nothing : Held
-nothing = record { first = record { 0 = 0 }; length = 0; last = false }
+nothing = nothingFrom (record { 0 = 0 })
 
 -- How many bytes the buffer `l` holds.
 abbrev pub heldIn : List ℕ → Held → ℕ

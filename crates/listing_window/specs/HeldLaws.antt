@@ -9,7 +9,7 @@ use lib.Seq.{paste, paste-suc, length-paste, drop-paste, getD-drop, take-append-
 use Rattle.listing_window.specs.declared.Held.{Held}
 use Rattle.listing_window.specs.declared.Refilled.{Refilled}
 use Rattle.listing_window.specs.declared.Refilled.the-variants.{Failed, Window}
-use Rattle.listing_window.specs.Held.{Fails, Kept, Lacks, Reads, ReadsOn, distance, heldFrom, heldIn, slid}
+use Rattle.listing_window.specs.Held.{Fails, Kept, Lacks, Reads, ReadsOn, distance, heldFrom, heldIn, nothingFrom, slid}
 
 -- a buffer keeps its length
 pub length-slid : (l : List ℕ) (d i : ℕ) → d + i ≤ length l → length (paste l 0 (drop d l) i) ≡ length l
@@ -58,6 +58,10 @@ length-read l ys a k same =
 pub read-front : (l rest : List ℕ) (n a : ℕ) → n ≤ a → a ≤ length l → take n (take a l ++ rest) ≡ take n l
 read-front l rest n a before within =
     take-append-le n (take a l) rest (omega (arith, length-take a l)) ∙ take-take n a l before
+
+-- that nothing is held, said in one piece
+pub nothing-held : (h : Held) → h .last ≡ false → h .length ≡ 0 → nothingFrom (h .first) ≡ h
+nothing-held h unended none = λ i. record { first = h .first; length = sym none i; last = sym unended i }
 
 -- reading up to a place that is ahead: nothing is held before it
 module _ (h : Held) (m l : List ℕ) (place : ℕ) (unended : h .last ≡ false) (before : h .first .0 < place) (none : h .length ≡ 0) where

@@ -3,7 +3,7 @@
 ghost use mathlib.Core.Path.{_≡_};
 ghost use Prim.Native.Nat.{_-_, _≤_, _<_, min};
 ghost use lib.ListN.{length};
-ghost use Rattle.listing_window.specs.Held.{ReadsOn, Shows, heldFrom, nothing, slid};
+ghost use Rattle.listing_window.specs.Held.{ReadsOn, Shows, heldFrom, nothing, nothingFrom, slid};
 use scan_cdp::BytePlace;
 use scan_cdp::LIMIT;
 
@@ -84,23 +84,31 @@ fn pass(fd: i32, buffer: &mut [u8], held: Held, place: BytePlace) -> Refilled
     requires { ⌜ (held .length ≤ length (now buffer)) × (held .first .0 < place .0 → held .length ≡ 0) ⌝ }
     ensures { λ r. ⌜ ReadsOn held (now (buffer .entry)) (place .0) 0 (now (buffer .exit)) r ⌝ }
 {
-    let mut first = held.first.0;
     if held.last {
         return Refilled::Window(held);
     }
-    if place.0 <= first {
+    if place.0 <= held.first.0 {
         return Refilled::Window(held);
     }
-    if is_skipped(fd, place.0 - first) {
+    if is_skipped(fd, place.0 - held.first.0) {
         return Refilled::Window(Held {
             first: place,
             length: 0,
             last: false,
         });
     }
+    drop_up_to(fd, buffer, held.first, place)
+}
+
+// Reads and drops the bytes from one place up to another that is ahead.
+fn drop_up_to(fd: i32, buffer: &mut [u8], from: BytePlace, place: BytePlace) -> Refilled
+    requires { ⌜ from .0 < place .0 ⌝ }
+    ensures { λ r. ⌜ ReadsOn (nothingFrom from) (now (buffer .entry)) (place .0) 0 (now (buffer .exit)) r ⌝ }
+{
     if buffer.len() < 1 {
         return Refilled::Failed;
     }
+    let mut first = from.0;
     while first < place.0 {
         let start = 0;
         let end = distance(BytePlace(first), place, buffer.len());
