@@ -99,12 +99,14 @@ digits-parsed (byte ∷ behind) =
     let small : valueOf (byte ∷ behind) ≤ 255 = omega (arith, d .spell, d .at-most) in
     true≢false (sym (and-both _ _ (digits-all (byte ∷ behind) (d .each)) (le-leb _ _ small)) ∙ fails))
 
-pub number-parsed : (text : List ℕ) → numberParsed text (numberOf text)
+number-parsed : (text : List ℕ) → numberParsed text (numberOf text)
 unfolding numberOf
 number-parsed [] = λ n number. omega (arith, some-bytes [] n number)
 number-parsed (byte ∷ behind) =
     by-test (numberParsed (byte ∷ behind)) (eqb byte plusSign) _ _
-    (λ holds. signed-parsed (byte ∷ behind) behind (ap (λ (b : ℕ). b ∷ behind) (eqb-true _ _ holds)) (digitsNumber behind) (digits-parsed behind))
+    (λ holds.
+    signed-parsed (byte ∷ behind) behind (ap (λ (b : ℕ). b ∷ behind) (eqb-true _ _ holds))
+    (digitsNumber behind) (digits-parsed behind))
     (λ fails.
     plain-parsed (byte ∷ behind) (λ digits e. eqb-false _ _ fails (ap (λ (t : List ℕ). getD t 0 0) e))
     (digitsNumber (byte ∷ behind)) (digits-parsed (byte ∷ behind)))
@@ -119,10 +121,14 @@ parsed-number text r found = same r (numberOf text) found (number-parsed text)
     same u8.NotANumber (u8.Number m) p q = absurd (p m q)
     same u8.NotANumber u8.NotANumber p q = refl
 
+-- and what `numberOf` says is found
+pub found-parsed : (text : List ℕ) (r : ParsedU8) → r ≡ numberOf text → numberParsed text r
+found-parsed text r e = subst (numberParsed text) (sym e) (number-parsed text)
+
 -- so it answers with the grammar's numbers
 pub number-found : (text : List ℕ) (n : ℕ) → Number text n → numberOf text ≡ u8.Number n
 number-found text n number = sym (parsed-number text (u8.Number n) number)
 
 -- and with no others
 pub found-number : (text : List ℕ) (n : ℕ) → numberOf text ≡ u8.Number n → Number text n
-found-number text n e = subst (numberParsed text) e (number-parsed text)
+found-number text n e = found-parsed text (u8.Number n) (sym e)

@@ -25,7 +25,7 @@ textOf v w = section "RDH0: " (rdh0Tests (criteriaOf v w) w)
 unfoldable pub settledBy : Rdh0Validator → Rdh0 → Rdh0Validator
 settledBy v w = record { «header_id» = settledId (v .«header_id») (w .«header_id»); its = v .its }
 
--- The contract of a check of the word `w` on the validator `v`, which is lent the buffer `l`: `r` is its reply, and `m` is what it leaves in
--- the buffer.
+-- The contract of a check of the word `w` on the validator `v`, which is lent the buffer `l`: `r` is its reply, and `m` is what it leaves
+-- in the buffer.
 abbrev pub Checks : (v : Rdh0Validator) (w : Rdh0) (l : List ℕ) (r : Rdh0Check) (m : List ℕ) → Type 0
 Checks v w l r m = Judges Rdh0Validator (soundTo v w) (textOf v w) (settledBy v w) v l (r .verdict) (r .validator) m

@@ -24,7 +24,8 @@ pub judged : (v : Rdh0Validator) (w : Rdh0) (criteria : Criteria) {fails b : Boo
 unfolding soundTo
 judged v w criteria its-own is e = sym (ap not is ∙ ap (λ (k : Criteria). not (anyFails (rdh0Tests k w))) its-own) ∙ e
 
-pub named : (v : Rdh0Validator) (w : Rdh0) (criteria : Criteria) → criteria ≡ criteriaOf v w → section "RDH0: " (rdh0Tests criteria w) ≡ textOf v w
+pub named : (v : Rdh0Validator) (w : Rdh0) (criteria : Criteria) → criteria ≡ criteriaOf v w
+    → section "RDH0: " (rdh0Tests criteria w) ≡ textOf v w
 unfolding textOf
 named v w criteria its-own = ap (λ (k : Criteria). section "RDH0: " (rdh0Tests k w)) its-own
 

@@ -1,14 +1,9 @@
 -- The first `_` behind the first byte is the only place where the name can be cut, and each part is parsed by itself.
-use mathlib.Core.Path.{_≡_, sym, subst}
+use mathlib.Core.Path.{sym, subst}
 use mathlib.Core.Bool.{true}
-use mathlib.Core.List.{List}
-use Prim.Native.Nat.{ℕ}
 use native.Mathlib.Omega.{arith}
 use borrow.Author.Tests.{not-true, not-false}
-use Rattle.its_names_numbers.specs.Numbers.{numberOf}
-use Rattle.its_names_numbers.specs.NumberLaws.{number-parsed}
-use Rattle.its_names_numbers.specs.Parsing.{numberParsed}
-use Rattle.its_names_numbers.specs.declared.ParsedU8.{ParsedU8}
+use Rattle.its_names_numbers.specs.NumberLaws.{found-parsed}
 use Rattle.its_names.specs.Parsing.{nameParsed, startParsed}
 use Rattle.its_names.proofs.Parts.{has-underscore, parts-parsed}
 use Rattle.its_names.proofs.parse_stave_name.Statement.{statement}
@@ -59,9 +54,6 @@ parse-u8-requires-2 c κs = tt
 both-numbers-requires : tie.Need-both-numbers-requires
 both-numbers-requires c κs = tt
 
-found : (text : List ℕ) (r : ParsedU8) → r ≡ numberOf text → numberParsed text r
-found text r e = subst (numberParsed text) (sym e) (number-parsed text)
-
 returns-3 : tie.Need-returns-3
 returns-3 c =
     let layer = c .before .before .before .parse-u8 in
@@ -69,7 +61,7 @@ returns-3 c =
     let at-cut = c .before .before .before .before .before in
     subst (nameParsed _) (sym (c .both-numbers .ensures))
     (parts-parsed _ _ (well-started (at-cut .before .before)) (at-cut .before .underscore-place .ensures) (at-cut .if2 .left)
-    (layer .result) (stave .result) (found _ (layer .result) (layer .ensures)) (found _ (stave .result) (stave .ensures)))
+    (layer .result) (stave .result) (found-parsed _ (layer .result) (layer .ensures)) (found-parsed _ (stave .result) (stave .ensures)))
 
 pub parse-stave-name-spec : {M : Type 1} → statement M
 parse-stave-name-spec =

@@ -21,7 +21,8 @@ fails-requires c κs = search needs
 returns : tie.Need-returns
 returns c =
     let args = c .before .before .before .before .before .args in
-    let sound = judged (args .self) (args .rdh0) _ (c .before .before .before .criteria .ensures) (c .before .fails .ensures) (c .if1 .taken) in
+    let held-to = c .before .before .before .criteria .ensures in
+    let sound = judged (args .self) (args .rdh0) _ held-to (c .before .fails .ensures) (c .if1 .taken) in
     judges-sound sound (sound-text (args .self) (args .rdh0) sound) (c .before .before .settled-by .ensures)
 
 needed-requires : tie.Need-needed-requires
