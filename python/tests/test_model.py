@@ -7,7 +7,7 @@ import subprocess
 import sys
 import unittest
 
-from .differential import DIFFERENTIAL
+from .differential import DIFFERENTIAL, ROOT
 import port
 import scan_model
 
@@ -28,6 +28,12 @@ def of_module(kept):
 def of_model(state):
     return (state.place, state.position, state.load, state.seen, state.filtered, state.payload, state.links, state.links_used, state.fees,
             state.fees_used)
+
+
+class Stored(unittest.TestCase):
+    def test_what_the_list_of_calls_prints_is_the_models(self):
+        made = subprocess.run([sys.executable, str(DIFFERENTIAL / "make_replay.py")], stdout=subprocess.PIPE, check=True).stdout
+        self.assertEqual(made, (ROOT / "crates/chain_replay_cases/stdout").read_bytes())
 
 
 class Model(unittest.TestCase):
