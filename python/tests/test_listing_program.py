@@ -54,7 +54,7 @@ ENDS = {"sample": 2, "ends with 2": 2, "ends with 3": 3, "ends with 4": 4, "fill
 
 @functools.cache
 def defined(recording):
-    """The listing by the definition: one load after the other on a window that is the whole recording, each packet with its row and verdict."""
+    """The listing by the definition: one load after the other on a window with the whole recording, each packet with row and verdict."""
     kept, validator, lines = Kept(fee_ids=[0] * PLACES), Validator(), []
     while True:
         reply = kesarimbu.load(Settings(), kept, recording, 0, True)
