@@ -1,2 +1,3 @@
 pub mod ListingText
 pub mod ListingTextLaws
+pub mod Example
