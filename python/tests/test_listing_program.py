@@ -17,6 +17,7 @@ from make_recordings import header, packet
 
 PROGRAM = ROOT / "target/bin/listing"
 SAMPLE = ROOT / "samples/staves.raw"
+DATA = ROOT / "python/tests/data"
 PLACES = 4096
 # The window is 65,536 bytes long.
 PIECES = (1, 63, 64, 65537)
@@ -95,6 +96,10 @@ class Lists(unittest.TestCase):
         for name, recording in RECORDINGS.items():
             with self.subTest(name), file_with(recording) as path, open(path, "rb") as file:
                 self.assertEqual(run(file), (0, defined(recording), b""))
+
+    def test_the_sample_is_listed_as_the_rust_lists_it(self):
+        with open(SAMPLE, "rb") as file:
+            self.assertEqual(run(file)[1], (DATA / "rust_listing.txt").read_bytes())
 
     def test_pipes(self):
         for name, recording in RECORDINGS.items():
