@@ -11,6 +11,7 @@ use doors_scan_structs::progress_of;
 use doors_scan_structs::settings_of;
 use input_scanner::examine;
 use input_scanner::load_cdp;
+use rdh::rdh_cru::RDH_CRU_SIZE_BYTES;
 use scan_cdp::BytePlace;
 use scan_cdp::Examined;
 use scan_cdp::LoadMarks;
@@ -28,7 +29,7 @@ pub extern "C" fn kesarimbu_examine(
     window: &[u8],
     first: u64,
     last: bool,
-    header: &mut [u8; 64],
+    header: &mut [u8; RDH_CRU_SIZE_BYTES],
 ) -> PlainReply
     ensures { λ r. ⌜ left r (now (links .exit)) (now («fee_ids» .exit)) (now (header .exit))
         ≡ examinedThrough settings state (now (links .entry)) (now («fee_ids» .entry)) (now (window .entry)) first last (now (header .entry)) ⌝ }
@@ -52,7 +53,7 @@ pub extern "C" fn kesarimbu_load(
     window: &[u8],
     first: u64,
     last: bool,
-    header: &mut [u8; 64],
+    header: &mut [u8; RDH_CRU_SIZE_BYTES],
 ) -> PlainReply
     ensures { λ r. ⌜ left r (now (links .exit)) (now («fee_ids» .exit)) (now (header .exit))
         ≡ loadedThrough settings state (now (links .entry)) (now («fee_ids» .entry)) (now (window .entry)) first last (now (header .entry)) ⌝ }
@@ -71,7 +72,7 @@ fn hand_back(
     answer: Examined,
     marks: LoadMarks,
     progress: Progress,
-    header: &mut [u8; 64],
+    header: &mut [u8; RDH_CRU_SIZE_BYTES],
 ) -> PlainReply
     ensures { λ r. ⌜ HandedBack answer marks progress (now (header .entry)) r (now (header .exit)) ⌝ }
 {
