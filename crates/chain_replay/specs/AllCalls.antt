@@ -1,5 +1,5 @@
 -- The statements that four lists leave nothing out: every list of calls on windows of the recording is one that they say, and every reply
--- to it is the last one to a shorter list.
+-- to it is the last one to a shorter list. No public contract cites this file: `AllCallsLaws` has the proofs.
 use Prim.Native.Nat.{ℕ}
 use mathlib.Core.Bool.{Bool, true, false}
 use mathlib.Core.Path.{_≡_}

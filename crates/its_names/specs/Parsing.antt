@@ -1,5 +1,5 @@
--- What the private steps of the parser of stave names find: what the grammar has, or that it has nothing there. The public
--- contracts do not cite this file.
+-- What the private steps of the parser of stave names find: what the grammar has, or that it has nothing there. No
+-- public contract cites this file.
 use mathlib.Core.Path.{_≡_}
 use mathlib.Core.List.{List}
 use mathlib.Core.Bool.{Bool, true, false}

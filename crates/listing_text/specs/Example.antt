@@ -1,4 +1,4 @@
--- An example, which no contract and no statement cites: the listing of the two headers of P6, computed from the definition.
+-- An example, which no public contract cites: the listing of the two headers of P6, computed from the definition.
 use Prim.Native.Nat.{ℕ}
 use mathlib.Core.Path.{_≡_, refl}
 use mathlib.Core.List.{List, [], _∷_, _++_}

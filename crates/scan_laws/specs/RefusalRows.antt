@@ -1,5 +1,5 @@
 -- The table of refusals 1 to 6 of an examination, a row for each (R1 to R6, R10 to R12): when exactly it is due, what is returned with it, what
--- is left, and which marks come with it (S9).
+-- is left, and which marks come with it (S9). No public contract cites this file: `RefusalRowsLaws` says that the definitions agree with it.
 use Prim.Native.Nat.{ℕ, _+_, _≤_, max}
 use mathlib.Core.Bool.{Bool, true, false, not, _||_, _&&_}
 use mathlib.Core.List.{List, [], _∷_}
