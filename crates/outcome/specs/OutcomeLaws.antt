@@ -1,11 +1,9 @@
 -- Laws of the outcome.
 use mathlib.Core.Bool.{Bool, true, false, _&&_}
 use mathlib.Core.Path.{_≡_, refl, _∙_}
-use Prim.Native.Nat.{_<_, _≤_}
-use borrow.Author.Tests.{lt-ltb, le-ltb}
 use Rattle.basis.specs.Pick.{on, off, pick}
 use Rattle.rdh.specs.declared.rdh_cru.RdhCru.{RdhCru}
-use Rattle.scan_cdp.specs.Outcomes.{badOffset, filtered, isMatch, memorySize, offset, skipped, outcomeOf}
+use Rattle.scan_cdp.specs.Outcomes.{badMemorySize, badOffset, filtered, isMatch, memorySize, offset, skipped, outcomeOf}
 use Rattle.scan_cdp.specs.declared.Settings.{Settings}
 use Rattle.scan_cdp.specs.declared.Outcome.the-variants.{FeeIdsFull, BadOffset, HandedOut, MemorySize, Passed}
 
@@ -32,14 +30,14 @@ module _ (set : Settings) (h : RdhCru) where
   unfolding filtered
   mismatch e = off _ _ e
 
-  pub no-payload : isMatch set h ≡ true → memorySize h < 64 → filtered set h ≡ MemorySize
+  pub no-payload : isMatch set h ≡ true → badMemorySize (memorySize h) ≡ true → filtered set h ≡ MemorySize
   unfolding filtered
-  no-payload e small = on _ _ e ∙ on _ _ (lt-ltb (memorySize h) 64 small)
+  no-payload e small = on _ _ e ∙ on _ _ small
 
-  pub skipping : isMatch set h ≡ true → 64 ≤ memorySize h → set .«skip_payload» ≡ true → filtered set h ≡ skipped (offset h) HandedOut
+  pub skipping : isMatch set h ≡ true → badMemorySize (memorySize h) ≡ false → set .«skip_payload» ≡ true → filtered set h ≡ skipped (offset h) HandedOut
   unfolding filtered
-  skipping e large skip = on _ _ e ∙ off _ _ (le-ltb (memorySize h) 64 large) ∙ on _ _ skip
+  skipping e large skip = on _ _ e ∙ off _ _ large ∙ on _ _ skip
 
-  pub reading : isMatch set h ≡ true → 64 ≤ memorySize h → set .«skip_payload» ≡ false → filtered set h ≡ HandedOut
+  pub reading : isMatch set h ≡ true → badMemorySize (memorySize h) ≡ false → set .«skip_payload» ≡ false → filtered set h ≡ HandedOut
   unfolding filtered
-  reading e large read = on _ _ e ∙ off _ _ (le-ltb (memorySize h) 64 large) ∙ off _ _ read
+  reading e large read = on _ _ e ∙ off _ _ large ∙ off _ _ read

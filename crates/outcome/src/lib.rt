@@ -1,7 +1,7 @@
 // What becomes of one header: the refusals and the filter, in their order.
 ghost use mathlib.Core.Path.{_≡_};
 ghost use Rattle.scan_cdp.specs.Steps.{isFirst};
-ghost use Rattle.scan_cdp.specs.Outcomes.{badOffset, isCounted, filtered, handsOut, matched, skipped, outcomeOf};
+ghost use Rattle.scan_cdp.specs.Outcomes.{badMemorySize, badOffset, isCounted, filtered, handsOut, matched, skipped, outcomeOf};
 use rdh::rdh_cru::RDH_SIZE;
 use rdh::rdh_cru::RdhCru;
 use scan_cdp::OpenLoad;
@@ -16,6 +16,13 @@ pub fn sanity_check_offset_next(offset: u16) -> bool
     ensures { λ r. ⌜ r ≡ badOffset offset ⌝ }
 {
     (offset < RDH_SIZE) | (offset > MAX_OFFSET)
+}
+
+// Whether the memory size of a match is refused: with the payload read and with it skipped.
+fn sanity_check_memory_size(memory_size: u16) -> bool
+    ensures { λ r. ⌜ r ≡ badMemorySize «memory_size» ⌝ }
+{
+    memory_size < RDH_SIZE
 }
 
 // What becomes of a header. `first`: it is the first of its load; `full`: its FEE id is to be counted, is new, and has no place.
@@ -43,7 +50,7 @@ fn filtered(set: Settings, rdh: RdhCru) -> Outcome
     if !filter::is_rdh_filter_target(rdh.link_id, rdh.rdh0.fee_id.0, target) {
         return skipped(rdh.offset_new_packet, Outcome::Passed);
     }
-    if rdh.memory_size < RDH_SIZE {
+    if sanity_check_memory_size(rdh.memory_size) {
         return Outcome::MemorySize;
     }
     if set.skip_payload {

@@ -28,6 +28,10 @@ isMatch set h = matches (targetOf (set .filter)) (h .«link_id») (feeId h)
 abbrev pub badOffset : ℕ → Bool
 badOffset n = ltb n 64 || ltb 10064 n
 
+-- Whether a memory size is too small for the header alone (R3).
+abbrev pub badMemorySize : ℕ → Bool
+badMemorySize n = ltb n 64
+
 -- Where a distance is skipped and is below 0, refusal 5.
 unfoldable pub skipped : ℕ → Outcome → Outcome
 skipped n t = pick (ltb n 64) NegativeSkip t
@@ -37,7 +41,7 @@ skipped n t = pick (ltb n 64) NegativeSkip t
 unfoldable pub filtered : Settings → RdhCru → Outcome
 filtered set h =
     pick (isMatch set h)
-    (pick (ltb (memorySize h) 64) MemorySize (pick (set .«skip_payload») (skipped (offset h) HandedOut) HandedOut))
+    (pick (badMemorySize (memorySize h)) MemorySize (pick (set .«skip_payload») (skipped (offset h) HandedOut) HandedOut))
     (skipped (offset h) Passed)
 
 -- Step 2, then the others. A first header meets refusal 4 before 2, a later one 2 before 4 (S2).

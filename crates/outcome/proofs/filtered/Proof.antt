@@ -26,13 +26,17 @@ returns c =
     ∙ ap (λ (t : FilterTarget). matches t (args .rdh .«link_id») (feeId (args .rdh))) (c .before .before .before .filter-target .ensures) in
     c .skipped .ensures ∙ sym (mismatch (args .set) (args .rdh) (sym tested ∙ not-true _ (c .before .if1 .taken)))
 
+sanity-check-memory-size-requires : tie.Need-sanity-check-memory-size-requires
+sanity-check-memory-size-requires c κs = search needs
+
 returns-2 : tie.Need-returns-2
 returns-2 c =
     let args = c .before .before .before .before .before .args in
     let tested =
     c .before .before .before .is-rdh-filter-target .ensures
     ∙ ap (λ (t : FilterTarget). matches t (args .rdh .«link_id») (feeId (args .rdh))) (c .before .before .before .before .filter-target .ensures) in
-    sym (no-payload (args .set) (args .rdh) (sym tested ∙ not-false _ (c .before .before .if1 .left)) (c .if2 .taken))
+    let small = sym (c .before .sanity-check-memory-size .ensures) ∙ c .if2 .taken in
+    sym (no-payload (args .set) (args .rdh) (sym tested ∙ not-false _ (c .before .before .if1 .left)) small)
 
 skipped-requires-2 : tie.Need-skipped-requires-2
 skipped-requires-2 c κs = search needs
@@ -43,8 +47,9 @@ returns-3 c =
     let tested =
     c .before .before .before .before .before .is-rdh-filter-target .ensures
     ∙ ap (λ (t : FilterTarget). matches t (args .rdh .«link_id») (feeId (args .rdh))) (c .before .before .before .before .before .before .filter-target .ensures) in
+    let large = sym (c .before .before .before .sanity-check-memory-size .ensures) ∙ c .before .before .if2 .left in
     c .skipped2 .ensures
-    ∙ sym (skipping (args .set) (args .rdh) (sym tested ∙ not-false _ (c .before .before .before .before .if1 .left)) (c .before .before .if2 .left) (c .before .if3 .taken))
+    ∙ sym (skipping (args .set) (args .rdh) (sym tested ∙ not-false _ (c .before .before .before .before .if1 .left)) large (c .before .if3 .taken))
 
 returns-4 : tie.Need-returns-4
 returns-4 c =
@@ -52,7 +57,8 @@ returns-4 c =
     let tested =
     c .before .before .before .before .is-rdh-filter-target .ensures
     ∙ ap (λ (t : FilterTarget). matches t (args .rdh .«link_id») (feeId (args .rdh))) (c .before .before .before .before .before .filter-target .ensures) in
-    sym (reading (args .set) (args .rdh) (sym tested ∙ not-false _ (c .before .before .before .if1 .left)) (c .before .if2 .left) (c .if3 .left))
+    let large = sym (c .before .before .sanity-check-memory-size .ensures) ∙ c .before .if2 .left in
+    sym (reading (args .set) (args .rdh) (sym tested ∙ not-false _ (c .before .before .before .if1 .left)) large (c .if3 .left))
 
 pub filtered-spec : {M : Type 1} → statement M
 filtered-spec =
@@ -62,6 +68,7 @@ filtered-spec =
     is-rdh-filter-target-requires
     skipped-requires
     returns
+    sanity-check-memory-size-requires
     returns-2
     skipped-requires-2
     returns-3
