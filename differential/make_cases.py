@@ -48,6 +48,7 @@ def headers(rng, count):
         other = bytearray(one)
         other[rng.randrange(HEADER)] ^= rng.choice([0, 1 << rng.randrange(8)])
         print("equal", one.hex(), other.hex())
+        print("pht", one.hex())
         print("encode", one.hex(), rng.choice([0, 63, 64, 65, rng.randrange(200)]))
     for length in [0, 1, *range(60, 70), 127, 128]:
         print("header", (one + other)[:length].hex() or "-")

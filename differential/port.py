@@ -196,6 +196,9 @@ class Lines:
     def equal(self, content, other):
         return [f"equal {int(kesarimbu.equal(kesarimbu.decode(content), kesarimbu.decode(other)))}"]
 
+    def pht(self, content):
+        return [f"pht {int(kesarimbu.decode(content).is_pht_trigger)}"]
+
     def encode(self, content, length):
         header = kesarimbu.decode(content)
         return text_lines(partial(kesarimbu.encode, header), length, lambda _: ["written"])
@@ -325,6 +328,7 @@ SCAN = SETTINGS | dict(more=number64, loads=or_none(number64), length=or_none(nu
 FORMS = {
     "header": (Lines.header, form(data, further=number64)),
     "equal": (Lines.equal, form(data, data)),
+    "pht": (Lines.pht, form(data)),
     "encode": (Lines.encode, form(data, number64)),
     "fee": (Lines.fee, form(number16)),
     "uplink": (Lines.uplink, form(number16)),

@@ -81,6 +81,9 @@ static void parts_and_equality(void)
     h.dataformat_reserved0 = 0x0102030405060708;
     struct kesarimbu_header_parts p = kesarimbu_parts(h);
     CHECK(p.cru_id == 0xABC && p.dw == 2 && p.bc == 0xDEB && p.bc_reserved == 0x12345 && p.data_format == 8);
+    CHECK(p.is_pht_trigger); /* 0x4813 has bit 4 */
+    h.trigger_type = 0xFFFFFFEF;
+    CHECK(!kesarimbu_parts(h).is_pht_trigger);
 }
 
 static void rows(void)
@@ -286,6 +289,7 @@ static void layout_of_headers(void)
     FIELD(kesarimbu_header_parts, cru_id);
     FIELD(kesarimbu_header_parts, dw);
     FIELD(kesarimbu_header_parts, data_format);
+    FIELD(kesarimbu_header_parts, is_pht_trigger);
 }
 
 static void layout_of_texts_and_names(void)

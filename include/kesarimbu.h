@@ -119,13 +119,15 @@ struct kesarimbu_decoded {
     uint32_t refusal;
 };
 
-/* The fields that share a number with others: those of `bc_reserved0`, `cruid_dw` and `dataformat_reserved0`. */
+/* The fields that share a number with others: those of `bc_reserved0`, `cruid_dw` and `dataformat_reserved0`; and whether `trigger_type` has
+   the bit of a physics trigger. */
 struct kesarimbu_header_parts {
     uint32_t bc_reserved;
     uint16_t bc;
     uint16_t cru_id;
     uint8_t dw;
     uint8_t data_format;
+    bool is_pht_trigger;
 };
 
 /* A text, written at the start of the lent buffer. `refusal` is 0, and `length` bytes were written; or it is 7, and `length` are needed.

@@ -82,6 +82,11 @@ class Header:
         """The data format: the low 8 bits of `dataformat_reserved0`."""
         return _parts(self).data_format
 
+    @property
+    def is_pht_trigger(self) -> bool:
+        """Whether a physics trigger, bit 4 of `trigger_type`, is among the reasons why data were taken."""
+        return _parts(self).is_pht_trigger
+
 
 _NAMES = structs.names(structs.Header)
 _LAYOUT = structs.LAYOUTS[structs.Header]

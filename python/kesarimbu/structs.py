@@ -58,6 +58,7 @@ class HeaderParts(Structure):
         ("cru_id", c_uint16),
         ("dw", c_uint8),
         ("data_format", c_uint8),
+        ("is_pht_trigger", c_bool),
     ]
 
 

@@ -73,6 +73,11 @@ class ThereAndBack(unittest.TestCase):
             with self.subTest(header=header):
                 self.assertEqual((header.cru_id, header.dw, header.bc, header.bc_reserved, header.data_format), parts)
 
+    def test_physics_trigger_is_bit_4(self):
+        for bit in range(32):
+            self.assertIs(Header(trigger_type=1 << bit).is_pht_trigger, bit == 4)
+            self.assertIs(Header(trigger_type=0xFFFFFFFF - (1 << bit)).is_pht_trigger, bit != 4)
+
 
 class Equality(unittest.TestCase):
     def test_headers_that_differ_in_one_field(self):

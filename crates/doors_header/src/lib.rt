@@ -39,7 +39,7 @@ pub extern "C" fn kesarimbu_equal(header: PlainHeader, other: PlainHeader) -> bo
     serde_rdh::eq(header_of(header), header_of(other))
 }
 
-// The fields of a header that share a number with others.
+// The fields of a header that share a number with others, and whether it has a physics trigger.
 #[no_mangle]
 pub extern "C" fn kesarimbu_parts(header: PlainHeader) -> PlainHeaderParts
     ensures { λ r. ⌜ r ≡ partsOf (headerOf header) ⌝ }
@@ -50,12 +50,14 @@ pub extern "C" fn kesarimbu_parts(header: PlainHeader) -> PlainHeaderParts
     let cru_id = rdh.cru_id();
     let dw = rdh.dw();
     let data_format = rdh.data_format();
+    let is_pht_trigger = rdh.rdh2.is_pht_trigger();
     PlainHeaderParts {
         bc_reserved,
         bc,
         cru_id,
         dw,
         data_format,
+        is_pht_trigger,
     }
 }
 

@@ -3,7 +3,7 @@ use mathlib.Core.List.{[]}
 use lib.Dec.{eqb}
 use Rattle.basis.specs.Pick.{pick}
 use Rattle.basis.specs.Refusals.{Answer, gives, refuses}
-use Rattle.rdh.specs.Subfields.{bcOf, bcReservedOf, cruIdOf, dataFormatOf, dwOf}
+use Rattle.rdh.specs.Subfields.{bcOf, bcReservedOf, cruIdOf, dataFormatOf, dwOf, isPhtTrigger}
 use Rattle.rdh.specs.declared.rdh_cru.RdhCru.{RdhCru}
 use Rattle.serde_rdh.specs.Layout.{header}
 use Rattle.doors_header_structs.specs.Plain.{headerOf, plainHeader}
@@ -24,7 +24,7 @@ plainDecoded (refuses number values) = record { header = zeroHeader; refusal = n
 abbrev pub decodedOf : PlainDecoded → Answer RdhCru
 decodedOf n = pick (eqb (n .refusal) 0) (gives (headerOf (n .header))) (refuses (n .refusal) [])
 
--- The fields of a header that share a number with others, each by its bits.
+-- The fields of a header that share a number with others, and whether it has a physics trigger: each by its bits.
 abbrev pub partsOf : RdhCru → PlainHeaderParts
 partsOf h =
     record {
@@ -33,4 +33,5 @@ partsOf h =
       «cru_id» = cruIdOf (h .«cruid_dw» .0);
       dw = dwOf (h .«cruid_dw» .0);
       «data_format» = dataFormatOf (h .«dataformat_reserved0» .0);
+      «is_pht_trigger» = isPhtTrigger (h .rdh2 .«trigger_type»);
     }

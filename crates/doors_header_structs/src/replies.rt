@@ -17,7 +17,7 @@ pub struct PlainDecoded {
     pub refusal: u32,
 }
 
-// The fields that share a number with others.
+// The fields that share a number with others, and whether the trigger type has the bit of a physics trigger.
 #[repr(C)]
 pub struct PlainHeaderParts {
     pub bc_reserved: u32,
@@ -25,6 +25,7 @@ pub struct PlainHeaderParts {
     pub cru_id: u16,
     pub dw: u8,
     pub data_format: u8,
+    pub is_pht_trigger: bool,
 }
 
 pub fn plain_decoded(decoded: FromBuf) -> PlainDecoded

@@ -6,7 +6,7 @@ use crate::reading::{bytes, flag, hex, number, number_or_none, refuse};
 use crate::scan::{scan, Settings};
 use crate::validator::Validator;
 use alice_protocol_reader::fields;
-use alice_protocol_reader::rdh::{ByteSlice, RdhCru, SerdeRdh};
+use alice_protocol_reader::rdh::{ByteSlice, RdhCru, SerdeRdh, RDH_CRU};
 use fastpasta::stats::stats_collector::trigger_stats::TriggerStats;
 use fastpasta::stats::stats_collector::validate_other;
 use fastpasta::words::its;
@@ -73,6 +73,7 @@ fn set_up(state: &mut State, words: &[&str]) -> Result<bool> {
 fn answer(state: &mut State, words: &[&str], out: &mut impl Write) -> Result<()> {
     match words {
         ["header", word, room @ ..] => header(&bytes(word)?, lent::length(room)?, out),
+        ["pht", word] => writeln!(out, "pht {}", decode(&bytes(word)?)?.rdh2().is_pht_trigger() as u8),
         ["encode", word, room] => encode(&decode(&bytes(word)?)?, lent::length(&[room])?, out),
         ["equal", a, b] => writeln!(out, "equal {}", (decode(&bytes(a)?)? == decode(&bytes(b)?)?) as u8),
         ["verdict", word, room @ ..] => state.validator.verdict(&decode(&bytes(word)?)?, lent::length(room)?, out),

@@ -23,9 +23,13 @@ dw-requires c κs = search needs
 data-format-requires : tie.Need-data-format-requires
 data-format-requires c κs = search needs
 
+is-pht-trigger-requires : tie.Need-is-pht-trigger-requires
+is-pht-trigger-requires c κs = search needs
+
 returns : tie.Need-returns
 returns c =
-    let to-dw = c .before in
+    let to-data-format = c .before in
+    let to-dw = to-data-format .before in
     let to-cru-id = to-dw .before in
     let to-bc = to-cru-id .before in
     let to-reserved = to-bc .before in
@@ -34,7 +38,8 @@ returns c =
       bc = to-bc .bc .ensures i;
       «cru_id» = to-cru-id .cru-id .ensures i;
       dw = to-dw .dw .ensures i;
-      «data_format» = c .data-format .ensures i;
+      «data_format» = to-data-format .data-format .ensures i;
+      «is_pht_trigger» = c .is-pht-trigger .ensures i;
     })
     ∙ ap partsOf (to-reserved .before .header-of .ensures)
 
@@ -48,4 +53,5 @@ kesarimbu-parts-spec =
     cru-id-requires
     dw-requires
     data-format-requires
+    is-pht-trigger-requires
     returns)
