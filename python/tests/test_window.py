@@ -33,6 +33,12 @@ def far_recording():
     return b"".join(packet(rng, rng.choice([64, 65, 100, 1064, 10064])) for _ in range(60)) + packet(rng, 10064)[:64]
 
 
+def bytes_read():
+    """How many bytes this thread has got from reads so far."""
+    with open("/proc/thread-self/io") as told:
+        return int(told.readline().removeprefix("rchar: "))
+
+
 class Windows(unittest.TestCase):
     @classmethod
     def setUpClass(cls):
@@ -67,6 +73,20 @@ class Windows(unittest.TestCase):
     def test_packets_that_are_skipped(self):
         self.hold(far_recording(), True, WINDOWS, PIECES[1:])
         self.hold(far_recording()[:20000], True, WINDOWS, PIECES[:1])
+
+    def test_what_is_skipped_is_sought_in_a_file_and_read_from_a_pipe(self):
+        rng = random.Random("sought")
+        recording = b"".join(packet(rng, 10064) for _ in range(100))
+        with file_with(recording) as path, open(path, "rb", buffering=0) as file:
+            self.assertLess(self.read_by(file), 100 * 64 + 1000)  # the headers, and what it takes to tell
+        with pipe_with([recording]) as pipe:
+            self.assertGreaterEqual(self.read_by(pipe), len(recording))
+
+    def read_by(self, file):
+        """How many bytes 100 loads that skip payload read, through a window of 64 bytes."""
+        before = bytes_read()
+        self.assertEqual(self.count(file.fileno(), bytearray(64), False, True), 100)
+        return bytes_read() - before
 
     def test_recordings_of_every_kind(self):
         for name, recording in itertools.islice(every(8), 0, None, 3):
