@@ -18,7 +18,7 @@ UNCITED = "no public contract cites"
 IMPORT = re.compile(r"(abbrev |unfoldable )?(pub )?(use|mod) ")
 PARTS = {
     "The listing program": ("listing",),
-    "The doors for C and Python": ("doors",),
+    "The doors for C and Python": ("doors", "bench"),
 }
 
 

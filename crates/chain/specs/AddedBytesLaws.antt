@@ -24,7 +24,7 @@ use Rattle.scan_laws.specs.OutcomeLaws.{Known, known-here}
 use Rattle.scan_laws.specs.RowLaws.{IsCut, cut-empty, cut-more, cut-tells, either, entry-uncut, place-by-cut, place-read, whole-size}
 use Rattle.scan_laws.specs.StepLaws.{step-cases, step-six}
 use Rattle.scan_laws.specs.WindowLaws.{step-header}
-use Rattle.chain.specs.AddedBytes.{AddedBytes, Begins, BothSix, Closes, WasCut, closing, exceptPlace, payloadAt, same, same-end, was-cut, with-1, with-6}
+use Rattle.chain.specs.AddedBytesClaims.{AddedBytes, Begins, BothSix, Closes, WasCut, closing, exceptPlace, payloadAt, same, same-end, was-cut, with-1, with-6}
 use Rattle.chain.specs.Chain.{Kept, behind, chain, isRefused, left, next, placeOf}
 use Rattle.chain.specs.ChainLaws.{chain-induction, chain-six, chain-unfolds}
 

@@ -76,9 +76,12 @@ abbrev pub keptBy : Reply → Kept
 keptBy (examination e) = left e
 keptBy (load r) = record { state = r .state; feeIds = r .feeIds }
 
--- Whether a reply ends the chain (C3): any refusal, but 6 only where state and list meet it by themselves.
+-- Whether an answer ends the chain (C3): any refusal, but 6 only where state and list meet it by themselves.
+abbrev pub endsBy : {P : Type 0} → Answer (Found P) → (six : Bool) → Bool
+endsBy a six = isRefused a && (not (isRefusal 6 a) || six)
+
 abbrev pub endsChain : Reply → Bool
-endsChain r = isRefused (replyAnswer r) && (not (isRefusal 6 (replyAnswer r)) || unusable (keptBy r .state) (keptBy r .feeIds))
+endsChain r = endsBy (replyAnswer r) (unusable (keptBy r .state) (keptBy r .feeIds))
 
 -- The replies to a list of calls, each given the state and FEE list that the one before left, up to and with the one that ends the chain.
 abbrev pub replies : Settings → Kept → List Call → List Reply

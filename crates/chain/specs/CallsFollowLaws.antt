@@ -15,7 +15,7 @@ use Rattle.chain.specs.ChainLaws.{chain-unfolds}
 use Rattle.chain.specs.ExaminationLaws.{examination-follows, foundBy}
 use Rattle.chain.specs.FollowingLaws.{all-follow, rest-follows}
 use Rattle.chain.specs.LoadLaws.{load-follows}
-use Rattle.chain.specs.CallsFollow.{CallsFollow, LeavesRest}
+use Rattle.chain.specs.CallsFollowClaims.{CallsFollow, LeavesRest}
 
 -- ---- one call
 

@@ -8,14 +8,15 @@ use borrow.Author.Tests.{ne-eqb}
 use lib.Dec.{ltb}
 use lib.ListN.{length, drop}
 use Rattle.basis.specs.Pick.{by-test}
-use Rattle.basis.specs.Refusals.{gives, refuses}
-use Rattle.scan_cdp.specs.Answers.{wants}
+use Rattle.basis.specs.Refusals.{Answer, gives, refuses}
+use Rattle.scan_cdp.specs.Answers.{Found, handed, passed, wants}
 use Rattle.scan_cdp.specs.Loads.{isPassed}
 use Rattle.scan_cdp.specs.Steps.{Entry, ended, unchanged, unusable, entryAt}
 use Rattle.scan_cdp.specs.Windows.{outside, shown}
+use Rattle.scan_cdp.specs.declared.Part.{Part}
 use Rattle.scan_cdp.specs.declared.Settings.{Settings}
 use Rattle.scan_laws.specs.StepLaws.{entry-cases, step-cases}
-use Rattle.chain.specs.Calls.{Hold, Window, endsChain, examination, free, held, heldBack, needed}
+use Rattle.chain.specs.Calls.{Hold, Window, endsBy, endsChain, examination, free, held, heldBack, needed, readFrom}
 use Rattle.chain.specs.Chain.{Kept, isRefused, next, placeOf}
 
 -- ---- what holds a call back
@@ -63,3 +64,10 @@ entry-ends recording set k =
     (λ number values r.
     ap (λ (b : Bool). not b || unusable (e .state) (e .feeIds)) (ne-eqb number 6 (λ is. omega (arith, r .most, is))))
     (λ other. refl) (λ p same taken. refl))
+
+-- Reading the payload's bytes does not change whether an answer ends the chain.
+pub ends-read : (w : List ℕ) (a : Answer (Found Part)) (six : Bool) → endsBy a six ≡ endsBy (readFrom w a) six
+ends-read w (gives passed) six = refl
+ends-read w (gives (handed p)) six = refl
+ends-read w (gives (wants place size)) six = refl
+ends-read w (refuses number values) six = refl

@@ -11,7 +11,7 @@ use Rattle.scan_cdp.specs.Steps.{Entry, ended, unusable}
 use Rattle.scan_cdp.specs.declared.Settings.{Settings}
 use Rattle.scan_laws.specs.StepLaws.{entry-cases, step-cases}
 use Rattle.chain.specs.Chain.{Kept, chain, chainOf, isRefused, left, next, placeOf}
-use Rattle.chain.specs.ChainEntries.{Allowance, EntryByEntry, OnlyEntries, RefusedLast, isEntry, isNone}
+use Rattle.chain.specs.ChainEntriesClaims.{Allowance, EntryByEntry, OnlyEntries, RefusedLast, isEntry, isNone}
 use Rattle.chain.specs.ChainLaws.{chain-allowed, chain-induction, chain-unfolds}
 
 pub entry-by-entry : EntryByEntry

@@ -5,10 +5,10 @@ pub mod Following
 pub mod Calls
 pub mod PacketLists
 -- What is stated.
-pub mod ChainEntries
-pub mod CallsFollow
-pub mod Packets
-pub mod AddedBytes
+pub mod ChainEntriesClaims
+pub mod CallsFollowClaims
+pub mod PacketsClaims
+pub mod AddedBytesClaims
 -- Why it holds.
 pub mod ChainLaws
 pub mod ChainEntriesLaws

@@ -24,7 +24,7 @@ use Rattle.chain.specs.Chain.{Kept, chain, isRefused, left, next, placeO
 use Rattle.chain.specs.CallsFollowLaws.{calls-follow, leaves-rest}
 use Rattle.chain.specs.Following.{cutInto, leftOver}
 use Rattle.chain.specs.PacketLists.{Packet, headersOf, isHeld, matchIn, matching, noneHeld, packetIn, packetsIn, packetsOf}
-use Rattle.chain.specs.Packets.{EachOnce, ExactlyMatching, MatchingInTurn, NoneMissing, ReachesEnd}
+use Rattle.chain.specs.PacketsClaims.{EachOnce, ExactlyMatching, MatchingInTurn, NoneMissing, ReachesEnd}
 use Rattle.chain.specs.Walk.{headerAt}
 use Rattle.chain.specs.WalkLaws.{entries-collected, same-collected}
 

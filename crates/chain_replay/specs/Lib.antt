@@ -1,7 +1,7 @@
 -- What is defined.
 pub mod Replays
 -- What is stated.
-pub mod AllCalls
+pub mod AllCallsClaims
 -- Why it holds.
 pub mod ReplaysLaws
 pub mod AllCallsLaws

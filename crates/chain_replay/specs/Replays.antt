@@ -1,21 +1,19 @@
 -- A list of calls over one recording, said by four lists: whether each is a load, the first place and the size of its window, and whether
 -- the window is to be the last. Where the calls then stand.
 use Prim.Native.Nat.{ℕ, _+_}
-use mathlib.Core.Bool.{Bool, false, not, _||_, _&&_}
+use mathlib.Core.Bool.{Bool, false, _&&_}
 use mathlib.Core.Path.{_≡_}
 use mathlib.Core.List.{List, [], _∷_}
 use lib.Dec.{leb}
 use lib.ListN.{length, take, drop, getD}
 use Rattle.basis.specs.Pick.{pick}
-use Rattle.basis.specs.Refusals.{Answer}
-use Rattle.scan_cdp.specs.Answers.{Found, examinedAnswer, loadAnswer}
+use Rattle.scan_cdp.specs.Answers.{examinedAnswer, loadAnswer}
 use Rattle.scan_cdp.specs.Steps.{withLinks}
 use Rattle.scan_cdp.specs.Windows.{bytesAt}
 use Rattle.scan_cdp.specs.declared.Progress.{Progress}
 use Rattle.scan_cdp.specs.declared.Settings.{Settings}
-use Rattle.scan_laws.specs.Runs.{isRefusal}
-use Rattle.chain.specs.Calls.{Call, Reply, Window, along, endsChain, entryRead, examination, examines, keptBy, load, loadRead, loads}
-use Rattle.chain.specs.Chain.{Kept, chain, isRefused}
+use Rattle.chain.specs.Calls.{Call, Reply, Window, along, endsBy, endsChain, entryRead, examination, examines, keptBy, load, loadRead, loads}
+use Rattle.chain.specs.Chain.{Kept, chain}
 use Rattle.chain_replay.specs.declared.Asked.{Asked}
 use Rattle.chain_replay.specs.declared.Called.{Called}
 use Rattle.chain_replay.specs.declared.Told.{Told}
@@ -103,10 +101,7 @@ standOf recording c links feeIds =
     let k = keeps (c .progress) links feeIds in
     record { reply = toldOn (bytesAt recording (c .window)) k (c .told); kept = k; ends = c .ends }
 
--- Whether an answer ends the chain (C3), where state and list alone meet refusal 6 or do not.
-abbrev pub endsBy : {P : Type 0} → Answer (Found P) → (six : Bool) → Bool
-endsBy a six = isRefused a && (not (isRefusal 6 a) || six)
-
+-- Whether what was told ends the chain, where state and list alone meet refusal 6 or do not.
 abbrev pub endsTold : Told → (six : Bool) → Bool
 endsTold Told.Nothing six = false
 endsTold (Told.Examination a marks) six = endsBy (examinedAnswer a) six

@@ -10,17 +10,17 @@ use lib.Dec.{leb}
 use lib.ListN.{length, take, drop, getD, length-drop}
 use lib.Seq.{drop-cons}
 use Rattle.basis.specs.Pick.{pick}
-use Rattle.basis.specs.Refusals.{Answer, gives, refuses}
-use Rattle.scan_cdp.specs.Answers.{Found, examinedAnswer, handed, loadAnswer, passed, wants}
+use Rattle.scan_cdp.specs.Answers.{examinedAnswer, loadAnswer}
 use Rattle.scan_cdp.specs.Steps.{unusable}
 use Rattle.scan_cdp.specs.Windows.{bytesAt}
 use Rattle.scan_cdp.specs.declared.Part.{Part}
 use Rattle.scan_cdp.specs.declared.Settings.{Settings}
-use Rattle.chain.specs.Calls.{Call, Reply, Window, WindowOf, Windows, keptBy, readFrom, replies, replyTo, windowOf}
+use Rattle.chain.specs.Calls.{Call, Reply, Window, WindowOf, Windows, keptBy, replies, replyTo, windowOf}
 use Rattle.chain.specs.CallsFollowLaws.{calls-follow}
+use Rattle.chain.specs.CallsLaws.{ends-read}
 use Rattle.chain.specs.Chain.{Kept}
 use Rattle.chain.specs.Following.{repliesOf}
-use Rattle.chain_replay.specs.Replays.{Replays, Stand, Stands, askedAt, callAt, callOn, callsOf, endsBy, endsTold, lentAs, standAfter, standBy, standWith, toldOn, windowAt}
+use Rattle.chain_replay.specs.Replays.{Replays, Stand, Stands, askedAt, callAt, callOn, callsOf, endsTold, lentAs, standAfter, standBy, standWith, toldOn, windowAt}
 use Rattle.chain_replay.specs.declared.Asked.{Asked}
 use Rattle.chain_replay.specs.declared.Told.{Told}
 use Rattle.chain_replay.specs.declared.Told.the-variants as Told
@@ -83,13 +83,6 @@ lent-asked recording a part w last (starts, long) is ends =
     ∙ (λ i. lentAs (bytes i) (a .first) (a .last && leb (length recording) (a .first + length (bytes i))))
 
 -- ---- one call
-
--- Reading the payload's bytes does not change whether an answer ends the chain.
-ends-read : (w : List ℕ) (a : Answer (Found Part)) (six : Bool) → endsBy a six ≡ endsBy (readFrom w a) six
-ends-read w (gives passed) six = refl
-ends-read w (gives (handed p)) six = refl
-ends-read w (gives (wants place size)) six = refl
-ends-read w (refuses number values) six = refl
 
 only : (x y : Reply) → x ∷ [] ≡ y ∷ [] → x ≡ y
 only x y e = ap (first-of x) e

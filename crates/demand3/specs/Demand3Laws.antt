@@ -6,7 +6,7 @@ use Rattle.chain.specs.PacketsLaws.{each-once, exactly-matching, matching-in-tu
 use Rattle.scan_laws.specs.LoadRepliesLaws.{loads-tell-all}
 use Rattle.validators.specs.VerdictTextsLaws.{texts-left}
 use Rattle.validators.specs.VerdictsLaws.{follows}
-use Rattle.demand3.specs.Demand3.{Demand3}
+use Rattle.demand3.specs.Demand3Claims.{Demand3}
 use Rattle.demand3.specs.MarkedCasesLaws.{marked-agree}
 
 pub demand-3 : Demand3

@@ -1,25 +1,17 @@
--- The starred cases (E1 to E7) as one list of inputs and expected replies, and the statement that the definitions agree with the list (D3.8).
+-- The starred cases (E1 to E7) as one list of inputs and expected replies (D3.8).
 use Prim.Native.Nat.{ℕ}
 use mathlib.Core.Bool.{Bool, true, false}
-use mathlib.Core.Path.{_≡_}
 use mathlib.Core.List.{List, [], _∷_, _++_}
 use lib.IntN.{pos, negsuc}
 use lib.ListN.{replicate}
 use Rattle.basis.specs.Bytes.{bytesOf}
 use Rattle.basis.specs.Refusals.{Answer, gives, refuses}
-use Rattle.filter.specs.Filter.{matches}
-use Rattle.filter.specs.declared.FilterTarget.the-variants.{ItsLayerStave}
 use Rattle.filter.specs.declared.Option8.the-variants as Option8
 use Rattle.filter.specs.declared.Option16.the-variants as Option16
-use Rattle.its_names.specs.StaveNames.{namedFee}
-use Rattle.rdh.specs.Subfields.{layerOf, staveOf}
 use Rattle.serde_rdh.specs.Layout.{decoded, header}
 use Rattle.scan_cdp.specs.Answers.{Found, handed}
-use Rattle.scan_cdp.specs.Steps.{newState, stepIn}
 use Rattle.scan_cdp.specs.declared.Settings.{Settings}
 use Rattle.text.specs.Ascii.{ascii}
-use Rattle.validators.specs.Verdict.{soundTo}
-use Rattle.validators.specs.declared.HeaderId.the-variants.{NotSettled}
 
 -- The header of the listing's example (P6), with a FEE id, an offset, a bunch counter and a trigger type of the case's own.
 unfoldable pub sample : (feeId offset bc trigger : ℕ) → List ℕ
@@ -80,16 +72,3 @@ marked =
     ∷ stave-filter 0x502A 0x522A true
     ∷ name (ascii "L9_70") (gives 0x1006)
     ∷ []
-
--- The definitions answer an input with that reply.
-abbrev pub Agrees : Case → Type 0
-Agrees (offset n reply) = stepIn (sample 0x502A n 0 0x4813) plain newState (0 ∷ []) .answer ≡ reply
-Agrees (soundness feeId bc trigger reply) =
-    soundTo (record { «header_id» = NotSettled; its = false }) (decoded (sample feeId 64 bc trigger)) ≡ reply
-Agrees (fee-id n layer stave) = (layerOf n ≡ layer) × (staveOf n ≡ stave)
-Agrees (stave-filter setting feeId reply) = (link : ℕ) → matches (ItsLayerStave setting) link feeId ≡ reply
-Agrees (name text reply) = namedFee text ≡ reply
-
-abbrev pub AllAgree : List Case → Type 0
-AllAgree [] = Unit {0}
-AllAgree (c ∷ cs) = Agrees c × AllAgree cs

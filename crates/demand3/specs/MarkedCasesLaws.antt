@@ -9,7 +9,8 @@ use Rattle.scan_cdp.specs.Steps.{cut, entryOf, payloadOf, step, outcomeIn, unus
 use Rattle.scan_cdp.specs.Outcomes.{filtered, skipped, outcomeOf}
 use Rattle.stats.specs.Lists.{full, member, twice}
 use Rattle.validators.specs.Verdict.{soundTo}
-use Rattle.demand3.specs.MarkedCases.{AllAgree, marked, sample}
+use Rattle.demand3.specs.MarkedCases.{marked, sample}
+use Rattle.demand3.specs.MarkedCasesClaims.{AllAgree}
 
 -- the proofs of the cases, one after the other
 infixr 20 _then_

@@ -1,3 +1,4 @@
 pub mod ListingText
+pub mod ListingTextClaims
 pub mod ListingTextLaws
 pub mod Example

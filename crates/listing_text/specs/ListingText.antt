@@ -1,7 +1,6 @@
--- The listing of a recording (P), from its chain and with no window in it; and what loads through windows put of it.
+-- The listing of a recording (P), from its chain and with no window in it; and the lines that loads through windows put.
 use Prim.Native.Nat.{ℕ}
-use mathlib.Core.Bool.{Bool, true, false, _||_}
-use mathlib.Core.Path.{_≡_}
+use mathlib.Core.Bool.{Bool, false, _||_}
 use mathlib.Core.List.{List, [], _∷_, _++_}
 use lib.ListN.{replicate}
 use Rattle.basis.specs.Pick.{pick}
@@ -10,9 +9,8 @@ use Rattle.scan_cdp.specs.Loads.{Loaded, loaded}
 use Rattle.scan_cdp.specs.Steps.{Entry, newState}
 use Rattle.scan_cdp.specs.declared.Part.{Part}
 use Rattle.scan_cdp.specs.declared.Settings.{Settings}
-use Rattle.chain.specs.Calls.{Window, WindowOf, endsChain, load, loadRead}
+use Rattle.chain.specs.Calls.{Window}
 use Rattle.chain.specs.Chain.{Kept, chain, isRefused}
-use Rattle.chain.specs.Following.{Each}
 use Rattle.listing_load.specs.LoadLines.{answerLines, linesOf, validatorOf}
 use Rattle.listing_start.specs.Start.{listSettings, newValidator}
 
@@ -62,26 +60,3 @@ textToCome recording set v k [] = listingText recording set v k
 textToCome recording set v k (w ∷ ws) =
     let l = loadOn set k w in
     pick (isRefused (l .answer)) [] (textToCome recording set (validatorOf v (l .answer)) (keptAfter l) ws)
-
--- The windows are the recording's, and none is refused by itself: a 6 is due by state and list (C4).
-abbrev pub Through : List ℕ → Settings → Kept → List Window → Type 0
-Through recording set k [] = Unit {0}
-Through recording set k (w ∷ ws) =
-    let l = loadOn set k w in
-    WindowOf recording w
-    × (isRefused (l .answer) ≡ true → endsChain (load (loadRead (w .bytes) l)) ≡ true)
-    × Through recording set (keptAfter l) ws
-
--- ---- the statements
-
--- Whatever windows the loads have, their lines and those to come are the listing.
-abbrev pub LoadsFollow : Type 0
-LoadsFollow =
-    (recording : List ℕ) (set : Settings) (v : RdhCruSanityValidator) (k : Kept) (ws : List Window) → Through recording set k ws
-    → loadsText set v k ws ++ textToCome recording set v k ws ≡ listingText recording set v k
-
--- So loads up to a refusal put the whole of it, and nothing else.
-abbrev pub LoadsList : Type 0
-LoadsList =
-    (recording : List ℕ) (set : Settings) (v : RdhCruSanityValidator) (k : Kept) (ws : List Window) → Through recording set k ws
-    → areRefused set k ws ≡ true → loadsText set v k ws ≡ listingText recording set v k

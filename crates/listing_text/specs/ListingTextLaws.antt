@@ -10,18 +10,21 @@ use Rattle.validators.specs.declared.RdhCruSanityValidator.{RdhCruSanityValidat
 use Rattle.scan_cdp.specs.Answers.{Found, handed, passed, wants}
 use Rattle.scan_cdp.specs.Loads.{Loaded, isPassed, loaded, noLoadMarks, together}
 use Rattle.scan_cdp.specs.Steps.{Entry, unusable}
+use Rattle.scan_cdp.specs.Windows.{outside}
 use Rattle.scan_cdp.specs.declared.Counts.{Counts}
 use Rattle.scan_cdp.specs.declared.LoadMarks.{LoadMarks}
 use Rattle.scan_cdp.specs.declared.Part.{Part}
 use Rattle.scan_cdp.specs.declared.Settings.{Settings}
+use Rattle.scan_laws.specs.FittingLaws.{loaded-six}
 use Rattle.scan_laws.specs.RunLaws.{enough}
 use Rattle.scan_laws.specs.Runs.{isRefusal}
 use Rattle.chain.specs.Calls.{Hold, Reply, Served, Window, WindowOf, endsChain, free, held, heldBack, heldLoad, keptBy, load, loadAlong, loadRead, loadedBy, readFrom, replyAnswer}
-use Rattle.chain.specs.CallsLaws.{held-cases}
-use Rattle.chain.specs.Chain.{Kept, chain, isRefused, left}
+use Rattle.chain.specs.CallsLaws.{ends-read, held-cases}
+use Rattle.chain.specs.Chain.{Kept, chain, isRefused, left, placeOf}
 use Rattle.chain.specs.LoadLaws.{load-follows}
 use Rattle.listing_load.specs.LoadLines.{answerLines, linesOf, validatorOf}
-use Rattle.listing_text.specs.ListingText.{LoadsFollow, LoadsList, Through, areRefused, entriesText, keptAfter, listingText, loadOn, loadsText, textToCome}
+use Rattle.listing_text.specs.ListingText.{areRefused, entriesText, keptAfter, listingText, loadOn, loadsText, textToCome}
+use Rattle.listing_text.specs.ListingTextClaims.{LoadsFollow, LoadsList}
 
 -- ---- what a load is served
 
@@ -91,6 +94,10 @@ read-lines v w (gives (handed p)) counts = (refl, refl, refl)
 read-lines v w (gives (wants place size)) counts = (refl, refl, refl)
 read-lines v w (refuses number values) counts = (refl, refl, refl)
 
+owed : (refused six by-state : Bool) → refused ≡ true → (six ≡ true → by-state ≡ true) → refused && (not six || by-state) ≡ true
+owed refused true by-state is due = ap (λ (b : Bool). b && by-state) is ∙ due refl
+owed refused false by-state is due = ap (λ (b : Bool). b && true) is
+
 module _ (recording : List ℕ) (set : Settings) (v : RdhCruSanityValidator) (k : Kept) (w : Window) (of : WindowOf recording w) where
   abbrev l : Loaded Part
   l = loadOn set k w
@@ -105,6 +112,12 @@ module _ (recording : List ℕ) (set : Settings) (v : RdhCruSanityValidator) (k 
       ≡ record { reply = r; rest = pick (endsChain r) [] (chain recording set (keptAfter l)) }
   unfolding loaded
   served = load-follows recording set w of (length (w .bytes) / 64 + 1) noLoadMarks k (enough (k .state) (w .bytes) (w .first))
+
+  -- a refusal ends the chain: a 6 is due by state and list, since the window fits
+  own : outside (placeOf k) (w .first) (length (w .bytes)) ≡ false → isRefused (l .answer) ≡ true → endsChain r ≡ true
+  own fits refused =
+      sym (ends-read (w .bytes) (l .answer) (unusable (l .state) (l .feeIds)))
+      ∙ owed _ _ _ refused (loaded-six set (w .bytes) (w .first) (w .last) (k .state) (k .feeIds) fits)
 
   -- an answer that is not refused does not end the chain
   goes-on : isRefused (l .answer) ≡ false → endsChain r ≡ false
@@ -142,7 +155,7 @@ behind-refusal false t u = refl
 pub loads-follow : LoadsFollow
 unfolding loadsText textToCome
 loads-follow recording set v k [] through = refl
-loads-follow recording set v k (w ∷ ws) (of, own, onward) =
+loads-follow recording set v k (w ∷ ws) (of, fits, onward) =
     let l = loadOn set k w in
     let after = validatorOf v (l .answer) in
     let put = loadsText set after (keptAfter l) ws in
@@ -151,7 +164,7 @@ loads-follow recording set v k (w ∷ ws) (of, own, onward) =
     ∙ ap (λ (t : List ℕ). linesOf v (l .answer) l ++ t)
     (behind-refusal (isRefused (l .answer)) put to-come
     ∙ ap (λ (t : List ℕ). pick (isRefused (l .answer)) [] t) (loads-follow recording set after (keptAfter l) ws onward))
-    ∙ one-load recording set v k w of own
+    ∙ one-load recording set v k w of (own recording set v k w of fits)
 
 -- a refusal leaves nothing to come
 none-to-come : (recording : List ℕ) (set : Settings) (v : RdhCruSanityValidator) (k : Kept) (ws : List Window) → areRefused set k ws ≡ true

@@ -7,6 +7,8 @@ pub mod StepLaws
 pub mod RunLaws
 pub mod LoadTurnLaws
 pub mod LoadReplies
+pub mod LoadRepliesClaims
 pub mod LoadRepliesLaws
-pub mod RefusalRows
+pub mod RefusalRowsClaims
 pub mod RefusalRowsLaws
+pub mod FittingLaws

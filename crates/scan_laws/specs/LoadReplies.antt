@@ -1,14 +1,11 @@
--- The examinations of a load call, and the statement that its marks are all of theirs (L1, L2).
+-- The examinations of a load call, and the marks of all of them (L1, L2).
 use Prim.Native.Nat.{ℕ, zero, suc, _+_, _/_}
 use mathlib.Core.Bool.{Bool, true, false, _||_}
 use mathlib.Core.List.{List, [], _∷_}
-use mathlib.Core.Path.{_≡_}
-use lib.ListN.{length, drop}
+use lib.ListN.{length}
 use Rattle.basis.specs.Pick.{pick}
-use Rattle.basis.specs.Refusals.{gives}
-use Rattle.scan_cdp.specs.Answers.{passed}
-use Rattle.scan_cdp.specs.Loads.{Loaded, isPassed, loaded}
-use Rattle.scan_cdp.specs.Steps.{Entry, unchanged}
+use Rattle.scan_cdp.specs.Loads.{isPassed}
+use Rattle.scan_cdp.specs.Steps.{Entry}
 use Rattle.scan_cdp.specs.Windows.{examined}
 use Rattle.scan_cdp.specs.declared.Initial.{Initial}
 use Rattle.scan_cdp.specs.declared.Initial.the-variants as Report
@@ -63,17 +60,3 @@ allMarks es =
 unfoldable pub lastOf : Entry Part → List (Entry Part) → Entry Part
 lastOf e [] = e
 lastOf e (x ∷ xs) = lastOf x xs
-
--- What a load replies is what the last examination of its call replies and leaves, with the marks of all of them; and of these only the
--- first can have the initial mark, so that none is lost.
-pub record TellsAll (s : State) (feeIds : List ℕ) (r : Loaded Part) (es : List (Entry Part)) : Type 0 where
-  pub answer : r .answer ≡ lastOf (unchanged s feeIds (gives passed)) es .answer
-  pub state : r .state ≡ lastOf (unchanged s feeIds (gives passed)) es .state
-  pub fee-ids : r .feeIds ≡ lastOf (unchanged s feeIds (gives passed)) es .feeIds
-  pub marks : r .marks ≡ allMarks es
-  pub one-initial : any (λ (m : Marks). isInitial (m .initial)) (drop 1 es) ≡ false
-
-abbrev pub LoadsTellAll : Type 0
-LoadsTellAll =
-    (set : Settings) (s : State) (feeIds w : List ℕ) (first : ℕ) (last : Bool)
-    → TellsAll s feeIds (loaded set s feeIds w first last) (examinations set s feeIds w first last)

@@ -20,7 +20,8 @@ use Rattle.scan_cdp.specs.declared.Marks.{Marks}
 use Rattle.scan_cdp.specs.declared.Part.{Part}
 use Rattle.scan_cdp.specs.declared.Settings.{Settings}
 use Rattle.scan_cdp.specs.declared.State.{State}
-use Rattle.scan_laws.specs.LoadReplies.{LoadsTellAll, allMarks, any, examinations, examinationsOf, firstInitial, howMany, isInitial, lastOf}
+use Rattle.scan_laws.specs.LoadReplies.{allMarks, any, examinations, examinationsOf, firstInitial, howMany, isInitial, lastOf}
+use Rattle.scan_laws.specs.LoadRepliesClaims.{LoadsTellAll}
 use Rattle.scan_laws.specs.StepLaws.{examined-cases, examined-passed}
 
 -- ---- the reply is the last examination's

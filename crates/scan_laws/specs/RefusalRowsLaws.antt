@@ -28,7 +28,7 @@ use Rattle.scan_cdp.specs.declared.Part.{Part}
 use Rattle.scan_cdp.specs.declared.Position.{Position}
 use Rattle.scan_cdp.specs.declared.Settings.{Settings}
 use Rattle.scan_cdp.specs.declared.State.{State}
-use Rattle.scan_laws.specs.RefusalRows.{InTable, Left, OnlyRows, Row, Row1, Row2, Row3, Row4, Row5, Row6, bad, behindHeader, header, headerMarks, looked, noPlace, rest, short, when1, when6}
+use Rattle.scan_laws.specs.RefusalRowsClaims.{InTable, Left, OnlyRows, Row, Row1, Row2, Row3, Row4, Row5, Row6, bad, behindHeader, header, headerMarks, looked, noPlace, rest, short, when1, when6}
 use Rattle.scan_laws.specs.RowLaws.{both, cut-tells}
 use Rattle.scan_laws.specs.Runs.{isRefusal}
 use Rattle.scan_laws.specs.StepLaws.{Admitted, entry-answers, entry-cases, examined-cases, no-negative-skip, shownTo}

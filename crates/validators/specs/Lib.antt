@@ -3,6 +3,7 @@ pub mod Verdict
 pub mod JudgesLaws
 pub mod VerdictLaws
 pub mod Verdicts
+pub mod VerdictsClaims
 pub mod VerdictsLaws
-pub mod VerdictTexts
+pub mod VerdictTextsClaims
 pub mod VerdictTextsLaws

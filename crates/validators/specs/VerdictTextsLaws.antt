@@ -13,7 +13,7 @@ use Rattle.text.specs.Written.{overwritten}
 use Rattle.validators.specs.declared.RdhCruSanityValidator.{RdhCruSanityValidator}
 use Rattle.validators.specs.Verdict.{Checks, Judged, answered, textOf}
 use Rattle.validators.specs.Verdicts.{Reply, replies, reply}
-use Rattle.validators.specs.VerdictTexts.{AllGave, Gave, Made, TextsLeft, callOf}
+use Rattle.validators.specs.VerdictTextsClaims.{AllGave, Gave, Made, TextsLeft, callOf}
 
 -- whether an answer is a refusal
 abbrev isRefused : Answer Judged → Bool

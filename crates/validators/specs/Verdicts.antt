@@ -1,9 +1,7 @@
--- A list of verdicts on one validator, refused ones among them: what is replied, and what the validator then holds; and the statement that
--- each reply follows from the settings, the starting state and the calls up to it (D3.7).
+-- A list of verdicts on one validator, refused ones among them: what is replied, and what the validator then holds (D3.7).
 use Prim.Native.Nat.{ℕ}
 use mathlib.Core.Bool.{Bool}
-use mathlib.Core.Path.{_≡_}
-use mathlib.Core.List.{List, [], _∷_, _++_}
+use mathlib.Core.List.{List, [], _∷_}
 use lib.Dec.{leb}
 use lib.ListN.{length}
 use Rattle.basis.specs.Pick.{pick}
@@ -58,11 +56,3 @@ settledOver v (Settled n) cs = Settled n
 -- The validator after a list of calls.
 unfoldable pub validatorOver : RdhCruSanityValidator → List Call → RdhCruSanityValidator
 validatorOver v cs = holding v (settledOver v (v .«header_id») cs)
-
--- The statement: in a list of calls, what is answered to a call that stands behind others is the reply of the validator that
--- `validatorOver` makes of the starting one and those others, whatever comes after.
-abbrev pub Follows : Type 0
-Follows =
-    (v : RdhCruSanityValidator) (earlier : List Call) (c : Call) (later : List Call)
-    → replies v (earlier ++ (c ∷ later))
-    ≡ replies v earlier ++ (reply (validatorOver v earlier) c ∷ replies (validatorOver v (earlier ++ (c ∷ []))) later)

@@ -10,7 +10,8 @@ use Rattle.validators.specs.declared.HeaderId.{HeaderId}
 use Rattle.validators.specs.declared.HeaderId.the-variants.{Configured, NotSettled, Settled}
 use Rattle.validators.specs.declared.RdhCruSanityValidator.{RdhCruSanityValidator}
 use Rattle.validators.specs.Verdict.{holding, settledBy, textOf, validatorAfter}
-use Rattle.validators.specs.Verdicts.{Call, Follows, Reply, firstSettled, replies, reply, settledOver, settling, validatorOver}
+use Rattle.validators.specs.Verdicts.{Call, Reply, firstSettled, replies, reply, settledOver, settling, validatorOver}
+use Rattle.validators.specs.VerdictsClaims.{Follows}
 
 -- the validator as the calls leave it, one after the other
 left : RdhCruSanityValidator → List Call → RdhCruSanityValidator

@@ -2,7 +2,8 @@
 use mathlib.Core.Path.{ap, sym, _∙_}
 use Rattle.scan_cdp.specs.Answers.{examinedAnswer}
 use Rattle.scan_cdp.specs.declared.Examined.{Examined}
-use Rattle.chain_replay.specs.Replays.{endsBy, endsTold}
+use Rattle.chain.specs.Calls.{endsBy}
+use Rattle.chain_replay.specs.Replays.{endsTold}
 use Rattle.chain_replay.specs.declared.Told.{Told}
 use borrow.Author.Needs.{needs}
 use Rattle.chain_replay.proofs.ends_chain.Statement.{statement}

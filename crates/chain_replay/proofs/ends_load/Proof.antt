@@ -4,7 +4,7 @@ use mathlib.Core.Path.{ap, sym, _∙_}
 use lib.Dec.{eqb}
 use Rattle.scan_cdp.specs.Answers.{loadAnswer}
 use Rattle.scan_cdp.specs.declared.LoadCdp.{LoadCdp}
-use Rattle.chain_replay.specs.Replays.{endsBy}
+use Rattle.chain.specs.Calls.{endsBy}
 use borrow.Author.Needs.{needs}
 use Rattle.chain_replay.proofs.ends_load.Statement.{statement}
 use Rattle.chain_replay.proofs.ends_load.Tie as tie

@@ -12,7 +12,7 @@ use Rattle.filter.specs.Filter.{enabled}
 use Rattle.rdh.specs.declared.rdh_cru.RdhCru.{RdhCru}
 use Rattle.serde_rdh.specs.Layout.{decoded}
 use Rattle.stats.specs.Lists.{full}
-use Rattle.scan_cdp.specs.Outcomes.{badOffset, feeId, isMatch, memorySize, offset}
+use Rattle.scan_cdp.specs.Outcomes.{badMemorySize, badOffset, feeId, isMatch, memorySize, offset}
 use Rattle.scan_cdp.specs.Steps.{Entry, closed, initialOf, isFirst, noMarks, placesListed, raised, unusable, usedListed, withPlace}
 use Rattle.scan_cdp.specs.Windows.{examined, outside, shown}
 use Rattle.scan_cdp.specs.declared.Marks.{Marks}
@@ -125,7 +125,7 @@ module _ (set : Settings) (s : State) (feeIds w : List ℕ) (first : ℕ) (last 
 
   -- R3: a match with a memory size below 64, behind both.
   abbrev pub when3 : Bool
-  when3 = looked && (not (bad || noPlace) && (isMatch set header && ltb (memorySize header) 64))
+  when3 = looked && (not (bad || noPlace) && (isMatch set header && badMemorySize (memorySize header)))
 
   -- ---- the rows
 

@@ -1,12 +1,13 @@
 -- Demand 3 in one piece, clause by clause. Each part names a statement that stands in a file of its own.
-use Rattle.chain.specs.AddedBytes.{AddedBytes}
-use Rattle.chain.specs.CallsFollow.{CallsFollow, LeavesRest}
-use Rattle.chain.specs.ChainEntries.{Allowance, EntryByEntry, OnlyEntries, RefusedLast}
-use Rattle.chain.specs.Packets.{EachOnce, ExactlyMatching, MatchingInTurn, NoneMissing, ReachesEnd}
-use Rattle.scan_laws.specs.LoadReplies.{LoadsTellAll}
-use Rattle.validators.specs.VerdictTexts.{TextsLeft}
-use Rattle.validators.specs.Verdicts.{Follows}
-use Rattle.demand3.specs.MarkedCases.{AllAgree, marked}
+use Rattle.chain.specs.AddedBytesClaims.{AddedBytes}
+use Rattle.chain.specs.CallsFollowClaims.{CallsFollow, LeavesRest}
+use Rattle.chain.specs.ChainEntriesClaims.{Allowance, EntryByEntry, OnlyEntries, RefusedLast}
+use Rattle.chain.specs.PacketsClaims.{EachOnce, ExactlyMatching, MatchingInTurn, NoneMissing, ReachesEnd}
+use Rattle.scan_laws.specs.LoadRepliesClaims.{LoadsTellAll}
+use Rattle.validators.specs.VerdictTextsClaims.{TextsLeft}
+use Rattle.validators.specs.VerdictsClaims.{Follows}
+use Rattle.demand3.specs.MarkedCases.{marked}
+use Rattle.demand3.specs.MarkedCasesClaims.{AllAgree}
 
 pub record Demand3 : Type 0 where
   -- C1: the chain is the next entry, and the chain from what that one left.
