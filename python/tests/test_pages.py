@@ -52,7 +52,7 @@ class Pages(unittest.TestCase):
 
     def test_the_list_of_what_to_read(self):
         listed = subprocess.run([sys.executable, ROOT / "docs/reading_list.py"], stdout=subprocess.PIPE, check=True).stdout.decode()
-        self.assertIn(listed, (ROOT / "docs/PROOFS.md").read_text())
+        self.assertTrue(listed in (ROOT / "docs/PROOFS.md").read_text(), "`docs/reading_list.py docs/PROOFS.md` lists the files anew")
 
 
 if __name__ == "__main__":
