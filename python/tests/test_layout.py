@@ -11,7 +11,9 @@ PROGRAM = ROOT / "target/doors/test"
 
 # The sizes of Rattle's types, by which C aligns them too.
 SIZES = {"bool": 1, "u8": 1, "u16": 2, "u32": 4, "i32": 4, "u64": 8, "usize": ctypes.sizeof(ctypes.c_size_t)}
-STRUCT = re.compile(r"#\[repr\(C\)\]\s*pub struct Plain(\w+) \{(.*?)\n\}", re.DOTALL)
+STRUCT = re.compile(r"#\[repr\(C\)\]\s*pub struct (?:Plain)?(\w+) \{(.*?)\n\}", re.DOTALL)
+# A struct of the reader that crosses as it is, and what C and Python call it.
+OWN_NAMES = {"TriggerStats": "TriggerCounts"}
 FIELD = re.compile(r"^ *pub (\w+): (\w+),", re.MULTILINE)
 
 
@@ -34,13 +36,13 @@ def up_to(place, alignment):
 
 
 class RattleStructs:
-    """The structs that the doors' sources declare, laid out by C's rules."""
+    """The structs that the sources mark for C, laid out by C's rules."""
 
     def __init__(self):
         self.structs = {}
-        for path in sorted(ROOT.glob("crates/doors_*/src/**/*.rt")):
+        for path in sorted(ROOT.glob("crates/*/src/**/*.rt")):
             for name, body in STRUCT.findall(path.read_text()):
-                self.structs[name] = FIELD.findall(body)
+                self.structs[OWN_NAMES.get(name, name)] = FIELD.findall(body)
 
     def measures(self, kind):
         """The size and the alignment of a type."""

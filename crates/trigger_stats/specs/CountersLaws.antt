@@ -12,6 +12,36 @@ use Rattle.trigger_stats.specs.Counters.{Counter, bitOf, count, stats, c
 use Rattle.trigger_stats.specs.Counters.{orbit, hb, hbr, hc, pht, pp, cal, sot, eot, soc, eoc, tf, fe-rst, rt, rs}
 use Rattle.trigger_stats.specs.Counters.{lhc-gap1, lhc-gap2, tpc-sync, tpc-rst, tof}
 
+-- Statistics that are all zeros have counted nothing, so that C needs no function to begin with.
+abbrev pub zeros : TriggerStats
+zeros =
+    record {
+      orbit = 0;
+      hb = 0;
+      hbr = 0;
+      hc = 0;
+      pht = 0;
+      pp = 0;
+      cal = 0;
+      sot = 0;
+      eot = 0;
+      soc = 0;
+      eoc = 0;
+      tf = 0;
+      «fe_rst» = 0;
+      rt = 0;
+      rs = 0;
+      «lhc_gap1» = 0;
+      «lhc_gap2» = 0;
+      «tpc_sync» = 0;
+      «tpc_rst» = 0;
+      tof = 0;
+    }
+
+pub zeros-are-none : zeros ≡ uncounted
+unfolding uncounted stats
+zeros-are-none = refl
+
 -- statistics with equal counts are the same
 pub same-counts : (s t : TriggerStats) → ((k : Counter) → count k s ≡ count k t) → s ≡ t
 unfolding count stats

@@ -6,7 +6,8 @@ ghost use Rattle.trigger_stats.specs.Counters.{collected, count, counted
 // How many counters there are.
 pub const COUNTERS: usize = 20;
 
-// The counts of the trigger bits, bit 0 first. Bits 15 to 26 are spare and have none.
+// The counts of the trigger bits, bit 0 first. Bits 15 to 26 are spare and have none. C has the same struct, `kesarimbu_trigger_counts`.
+#[repr(C)]
 pub struct TriggerStats {
     // [0] Orbit
     pub orbit: u32,
