@@ -13,8 +13,9 @@ use Rattle.chain.specs.Calls.{Call, Reply, Window, WindowOf, endsChain, examine
 use Rattle.chain.specs.CallsFollowLaws.{calls-follow}
 use Rattle.chain.specs.Chain.{Kept}
 use Rattle.chain.specs.Following.{repliesOf}
+use Rattle.chain_replay_calls.specs.OneCall.{callAt, lentAs, windowAt}
 use Rattle.chain_replay.specs.AllCallsClaims.{EachReply, EveryCall}
-use Rattle.chain_replay.specs.Replays.{callAt, callsOf, lentAs, windowAt}
+use Rattle.chain_replay.specs.Replays.{callsOf}
 use Rattle.chain_replay.specs.ReplaysLaws.{windows}
 
 -- ---- every call

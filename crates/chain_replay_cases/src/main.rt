@@ -1,7 +1,7 @@
 // Shows how the crate `chain_replay` is used from Rattle: a list of calls over a recording of three packets, the last of which is cut, with
 // a filter for link 1. Each line is the last reply to the first calls of the list, one more for each line.
 ghost use Prim.Native.Nat.{_≤_};
-use chain_replay::Told;
+use chain_replay_calls::Told;
 use filter::FilterOpt;
 use filter::Option8;
 use filter::Option16;
@@ -116,7 +116,7 @@ fn answered(recording: &[u8], window: Part, found: LoadCdp) {
             cases_show::text(b" packet");
             cases_show::number(packet.position.0);
             let payload = packet.payload;
-            cases_show::bytes(chain_replay::payload(recording, window, payload));
+            cases_show::bytes(chain_replay_calls::payload(recording, window, payload));
         }
         LoadCdp::Want(place, size) => {
             cases_show::text(b" want");

@@ -4,7 +4,8 @@ use mathlib.Core.Path.{_≡_, refl}
 use native.Mathlib.Omega.{arith}
 use borrow.Author.Needs.{needs}
 use lib.ListN.{length}
-use Rattle.chain_replay.specs.Replays.{callsOf, keeps, standOf}
+use Rattle.chain_replay_calls.specs.OneCall.{keeps, standOf}
+use Rattle.chain_replay.specs.Replays.{callsOf}
 use Rattle.chain_replay.specs.ReplaysLaws.{Turn, all-made, below-all, call-goes-on, call-stops, callsFrom, follow, no-more, no-turn}
 use Rattle.chain_replay.proofs.replay.Statement.{statement}
 use Rattle.chain_replay.proofs.replay.Tie as tie

@@ -1,9 +1,9 @@
 -- The sum is compared as a difference.
 use native.Mathlib.Omega.{arith}
-use Rattle.chain_replay.specs.ReplaysLaws.{last-all, last-rest}
+use Rattle.chain_replay_calls.specs.OneCallLaws.{last-all, last-rest}
 use borrow.Author.Needs.{needs}
-use Rattle.chain_replay.proofs.reaches.Statement.{statement}
-use Rattle.chain_replay.proofs.reaches.Tie as tie
+use Rattle.chain_replay_calls.proofs.reaches.Statement.{statement}
+use Rattle.chain_replay_calls.proofs.reaches.Tie as tie
 
 returns : tie.Need-returns
 returns c = let a = c .before .args in last-all (a .asked .last) (a .whole) (a .asked .first) (a .size) (omega arith)

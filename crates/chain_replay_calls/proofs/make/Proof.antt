@@ -6,10 +6,10 @@ use Rattle.scan_cdp.specs.Loads.{Loaded}
 use Rattle.scan_cdp.specs.Steps.{Entry}
 use Rattle.scan_cdp.specs.declared.Part.{Part}
 use Rattle.chain.specs.Calls.{entryRead, examination, load, loadRead, replyTo}
-use Rattle.chain_replay.specs.Replays.{callOn, keeps, lentAs}
+use Rattle.chain_replay_calls.specs.OneCall.{callOn, keeps, lentAs}
 use borrow.Author.Needs.{needs}
-use Rattle.chain_replay.proofs.make.Statement.{statement}
-use Rattle.chain_replay.proofs.make.Tie as tie
+use Rattle.chain_replay_calls.proofs.make.Statement.{statement}
+use Rattle.chain_replay_calls.proofs.make.Tie as tie
 
 load-cdp-requires : tie.Need-load-cdp-requires
 load-cdp-requires c κs = search needs

@@ -3,11 +3,11 @@ use mathlib.Core.Path.{ap, sym, _∙_}
 use Rattle.scan_cdp.specs.Answers.{examinedAnswer}
 use Rattle.scan_cdp.specs.declared.Examined.{Examined}
 use Rattle.chain.specs.Calls.{endsBy}
-use Rattle.chain_replay.specs.Replays.{endsTold}
-use Rattle.chain_replay.specs.declared.Told.{Told}
+use Rattle.chain_replay_calls.specs.OneCall.{endsTold}
+use Rattle.chain_replay_calls.specs.declared.Told.{Told}
 use borrow.Author.Needs.{needs}
-use Rattle.chain_replay.proofs.ends_chain.Statement.{statement}
-use Rattle.chain_replay.proofs.ends_chain.Tie as tie
+use Rattle.chain_replay_calls.proofs.ends_chain.Statement.{statement}
+use Rattle.chain_replay_calls.proofs.ends_chain.Tie as tie
 
 enum-told : tie.Need-enum-told
 enum-told c = search needs

@@ -2,8 +2,8 @@
 use mathlib.Core.Bool.{_||_}
 use Rattle.scan_cdp.specs.Steps.{unusable}
 use borrow.Author.Needs.{needs}
-use Rattle.chain_replay.proofs.unusable.Statement.{statement}
-use Rattle.chain_replay.proofs.unusable.Tie as tie
+use Rattle.chain_replay_calls.proofs.unusable.Statement.{statement}
+use Rattle.chain_replay_calls.proofs.unusable.Tie as tie
 
 numbers-unusable-requires : tie.Need-numbers-unusable-requires
 numbers-unusable-requires c κs = search needs

@@ -4,8 +4,8 @@ use mathlib.Core.Path.{ap, _∙_}
 use Prim.Native.Nat.{ℕ}
 use Rattle.scan_cdp.specs.Windows.{bytesAt}
 use borrow.Author.Needs.{needs}
-use Rattle.chain_replay.proofs.payload.Statement.{statement}
-use Rattle.chain_replay.proofs.payload.Tie as tie
+use Rattle.chain_replay_calls.proofs.payload.Statement.{statement}
+use Rattle.chain_replay_calls.proofs.payload.Tie as tie
 
 payload-requires : tie.Need-payload-requires
 payload-requires c κs = search needs

@@ -1,11 +1,11 @@
 -- The part that is lent is the window that is asked for, and what is told on it is the reply.
 use mathlib.Core.Path.{ap, sym, _∙_}
 use Rattle.chain.specs.Calls.{Window, replyTo}
-use Rattle.chain_replay.specs.Replays.{callOn, endsTold, keeps, standBy, toldOn}
-use Rattle.chain_replay.specs.ReplaysLaws.{lent-asked, stands-told}
+use Rattle.chain_replay_calls.specs.OneCall.{callOn, endsTold, keeps, standBy, toldOn}
+use Rattle.chain_replay_calls.specs.OneCallLaws.{lent-asked, stands-told}
 use borrow.Author.Needs.{needs}
-use Rattle.chain_replay.proofs.call.Statement.{statement}
-use Rattle.chain_replay.proofs.call.Tie as tie
+use Rattle.chain_replay_calls.proofs.call.Statement.{statement}
+use Rattle.chain_replay_calls.proofs.call.Tie as tie
 
 part-of-requires : tie.Need-part-of-requires
 part-of-requires c κs = search needs

@@ -6,8 +6,8 @@ use Rattle.scan_cdp.specs.Answers.{loadAnswer}
 use Rattle.scan_cdp.specs.declared.LoadCdp.{LoadCdp}
 use Rattle.chain.specs.Calls.{endsBy}
 use borrow.Author.Needs.{needs}
-use Rattle.chain_replay.proofs.ends_load.Statement.{statement}
-use Rattle.chain_replay.proofs.ends_load.Tie as tie
+use Rattle.chain_replay_calls.proofs.ends_load.Statement.{statement}
+use Rattle.chain_replay_calls.proofs.ends_load.Tie as tie
 
 enum-told : tie.Need-enum-told
 enum-told c = search needs

@@ -1,0 +1,4 @@
+-- What is defined.
+pub mod OneCall
+-- Why it holds.
+pub mod OneCallLaws
