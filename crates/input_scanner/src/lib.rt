@@ -5,7 +5,7 @@ ghost use Rattle.basis.specs.Pick.{pick};
 ghost use Rattle.scan_cdp.specs.Steps.{limit, withLinks};
 ghost use Rattle.scan_cdp.specs.Windows.{examined};
 ghost use Rattle.scan_cdp.specs.Loads.{eitherInitial, loaded, noLoadMarks, together};
-ghost use Rattle.scan_window.specs.Examinations.{examinationOf};
+ghost use Rattle.scan_replies.specs.Examinations.{examinationOf};
 ghost use Rattle.input_scanner.specs.Replies.{loadOf};
 use scan_cdp::BytePlace;
 use scan_cdp::Examined;
@@ -16,9 +16,9 @@ use scan_cdp::Marks;
 use scan_cdp::Progress;
 use scan_cdp::Refusal;
 use scan_cdp::Settings;
+use scan_replies::Examination;
+use scan_replies::unchanged;
 use scan_step::take_step;
-use scan_window::Examination;
-use scan_window::unchanged;
 
 // What a load replies. Links and FEE ids are left where they are lent.
 pub struct Load {

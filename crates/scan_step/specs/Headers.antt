@@ -12,7 +12,7 @@ use Rattle.scan_cdp.specs.declared.Outcome.{Outcome}
 use Rattle.scan_cdp.specs.declared.Part.{Part}
 use Rattle.scan_cdp.specs.declared.Progress.{Progress}
 use Rattle.scan_cdp.specs.declared.Settings.{Settings}
-use Rattle.scan_window.specs.declared.Examination.{Examination}
+use Rattle.scan_replies.specs.declared.Examination.{Examination}
 
 -- A header's bytes start at `start` in a window, with so many bytes from there on.
 pub record HeaderHere (p : Progress) (start left : ℕ) : Type 0 where

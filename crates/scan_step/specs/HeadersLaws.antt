@@ -19,11 +19,10 @@ use Rattle.scan_cdp.specs.declared.Outcome.{Outcome}
 use Rattle.scan_cdp.specs.declared.Part.{Part}
 use Rattle.scan_cdp.specs.declared.Progress.{Progress}
 use Rattle.scan_cdp.specs.declared.Settings.{Settings}
-use Rattle.scan_cdp.specs.declared.State.{State}
 use Rattle.scan_laws.specs.WindowLaws.{shown-within, unless-6, unless-header, unless-short}
-use Rattle.scan_window.specs.Examinations.{examinationOf}
-use Rattle.scan_window.specs.ExaminationsLaws.{inside}
-use Rattle.scan_window.specs.declared.Examination.{Examination}
+use Rattle.scan_replies.specs.Examinations.{examinationOf}
+use Rattle.scan_replies.specs.declared.Examination.{Examination}
+use Rattle.scan_window.specs.UnusableLaws.{inside}
 use Rattle.scan_step.specs.Headers.{RepliesFor, Stepped}
 
 -- ---- a header

@@ -1,2 +1,1 @@
-pub mod Examinations
-pub mod ExaminationsLaws
+pub mod UnusableLaws

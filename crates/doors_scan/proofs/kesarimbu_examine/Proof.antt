@@ -5,7 +5,7 @@ use Rattle.scan_cdp.specs.Loads.{noLoadMarks, replied}
 use Rattle.scan_cdp.specs.Steps.{Entry, withLinks}
 use Rattle.scan_cdp.specs.Windows.{examined}
 use Rattle.scan_cdp.specs.declared.Part.{Part}
-use Rattle.scan_window.specs.Examinations.{examinationOf}
+use Rattle.scan_replies.specs.Examinations.{examinationOf}
 use Rattle.doors_scan.specs.Doors.{examinedThrough, leftBy}
 use Rattle.doors_scan_structs.specs.Plain.{settingsOf, stateOf}
 use borrow.Author.Needs.{needs}

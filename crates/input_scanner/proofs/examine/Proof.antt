@@ -5,7 +5,8 @@ use lib.ListN.{length}
 use Rattle.scan_cdp.specs.Steps.{withLinks}
 use Rattle.scan_cdp.specs.Windows.{outside}
 use Rattle.scan_laws.specs.WindowLaws.{refused-6}
-use Rattle.scan_window.specs.ExaminationsLaws.{nothing-changed, once-examined, twice-unusable}
+use Rattle.scan_replies.specs.ExaminationsLaws.{nothing-changed}
+use Rattle.scan_window.specs.UnusableLaws.{once-examined, twice-unusable}
 use borrow.Author.Needs.{needs}
 use Rattle.input_scanner.proofs.examine.Statement.{statement}
 use Rattle.input_scanner.proofs.examine.Tie as tie

@@ -1,7 +1,6 @@
 -- Each turn is one examination; the load from there on answers as the whole load does.
-use Prim.Native.Nat.{ℕ, _+_, _-_, _/_}
-use mathlib.Core.Bool.{Bool, _||_}
-use mathlib.Core.Path.{_≡_, ap, sym, subst, _∙_}
+use Prim.Native.Nat.{_+_, _-_, _/_}
+use mathlib.Core.Path.{ap, sym, subst, _∙_}
 use mathlib.Core.List.{[]}
 use native.Mathlib.Omega.{arith}
 use lib.ListN.{length}
@@ -12,7 +11,7 @@ use Rattle.scan_cdp.specs.Steps.{withLinks}
 use Rattle.scan_cdp.specs.declared.Examined.{Examined}
 use Rattle.scan_cdp.specs.declared.LoadMarks.{LoadMarks}
 use Rattle.scan_laws.specs.LoadTurnLaws.{LoadTurn, load-begins, load-ends, load-fee-ids, load-goes-on, load-passes, load-refused, not-passed}
-use Rattle.scan_window.specs.ExaminationsLaws.{once-examined, twice-unusable}
+use Rattle.scan_window.specs.UnusableLaws.{once-examined, twice-unusable}
 use borrow.Author.Needs.{needs}
 use Rattle.input_scanner.proofs.load_cdp.Statement.{statement}
 use Rattle.input_scanner.proofs.load_cdp.Tie as tie

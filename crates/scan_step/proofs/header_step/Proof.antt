@@ -1,6 +1,6 @@
 -- The outcome first; then a want, or the lists with what is new.
 use Prim.Native.Nat.{ℕ, _+_}
-use mathlib.Core.Bool.{Bool, true, false, not, _&&_}
+use mathlib.Core.Bool.{Bool, not, _&&_}
 use mathlib.Core.Path.{_≡_, ap, sym, subst, _∙_}
 use mathlib.Core.List.{List}
 use Rattle.rdh.specs.declared.rdh_cru.RdhCru.{RdhCru}
@@ -12,7 +12,7 @@ use Rattle.scan_cdp.specs.declared.Settings.{Settings}
 use Rattle.scan_cdp.specs.declared.Outcome.{Outcome}
 use Rattle.scan_cdp.specs.Windows.{wanting}
 use Rattle.scan_step.specs.Headers.{Stepped}
-use Rattle.scan_window.specs.ExaminationsLaws.{nothing-changed}
+use Rattle.scan_replies.specs.ExaminationsLaws.{nothing-changed}
 use Rattle.scan_step.specs.HeadersLaws.{header-entered, header-wanted}
 use borrow.Author.Needs.{needs}
 use Rattle.scan_step.proofs.header_step.Statement.{statement}

@@ -12,7 +12,8 @@ use Rattle.serde_rdh.specs.LayoutLaws.{decode-given}
 use Rattle.serde_rdh.specs.Refusals.{decodeAnswer}
 use Rattle.serde_rdh.specs.declared.FromBuf.{FromBuf}
 use Rattle.scan_cdp.specs.Steps.{numbersUnusable}
-use Rattle.scan_window.specs.ExaminationsLaws.{inside, nothing-changed}
+use Rattle.scan_replies.specs.ExaminationsLaws.{nothing-changed}
+use Rattle.scan_window.specs.UnusableLaws.{inside}
 use Rattle.scan_step.specs.HeadersLaws.{stepped-decoded, stepped-lacking, stepped-refused, within}
 use borrow.Author.Needs.{needs}
 use Rattle.scan_step.proofs.take_step.Statement.{statement}

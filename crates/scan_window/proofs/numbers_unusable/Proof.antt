@@ -1,6 +1,5 @@
 -- The tests in a row are those of the definition.
 use mathlib.Core.Path.{refl}
-use Rattle.scan_cdp.specs.Steps.{numbersUnusable}
 use Rattle.scan_window.proofs.numbers_unusable.Statement.{statement}
 use Rattle.scan_window.proofs.numbers_unusable.Tie as tie
 

@@ -1,4 +1,4 @@
--- Laws of the parts of an examination that find no header.
+-- Laws of refusal 6: what its numbers alone leave of it, and what a window that it lets through is.
 use Prim.Native.Nat.{ℕ, _+_, _≤_}
 use mathlib.Core.Bool.{Bool, true, false, _||_, or-false, or-true}
 use mathlib.Core.Path.{_≡_, ap, sym, _∙_}
@@ -6,34 +6,13 @@ use mathlib.Core.List.{List}
 use borrow.Author.Tests.{ltb-false}
 use lib.Dec.{ltb}
 use lib.ListN.{length, take}
-use Rattle.basis.specs.Pick.{neither, off, on}
-use Rattle.basis.specs.Refusals.{Answer}
-use Rattle.stats.specs.Lists.{placesAfter, twice, usedAfter}
-use Rattle.scan_cdp.specs.Answers.{Found}
-use Rattle.scan_cdp.specs.Steps.{limit, numbersUnusable, placesListed, unchanged, unusable, usedListed, withLinks}
+use Rattle.basis.specs.Pick.{neither}
+use Rattle.stats.specs.Lists.{twice}
+use Rattle.scan_cdp.specs.Steps.{limit, numbersUnusable, unusable, withLinks}
 use Rattle.scan_cdp.specs.Windows.{examined, examinedUnless, outside}
-use Rattle.scan_cdp.specs.declared.Part.{Part}
 use Rattle.scan_cdp.specs.declared.Progress.{Progress}
 use Rattle.scan_cdp.specs.declared.Settings.{Settings}
 use Rattle.scan_cdp.specs.declared.State.{State}
-use Rattle.scan_window.specs.Examinations.{Unchanged, examinationOf}
-use Rattle.scan_window.specs.declared.Examination.{Examination}
-
--- A reply that changes nothing, with the links and FEE ids as they were.
-pub nothing-changed : {p : Progress} {a : Answer (Found Part)} {r : Examination} → Unchanged p a r → (links feeIds : List ℕ)
-    → examinationOf r links feeIds ≡ unchanged (withLinks p links) feeIds a
-nothing-changed u links feeIds =
-    λ i. record { answer = u .answer i; marks = u .marks i; state = withLinks (u .progress i) links; feeIds = feeIds }
-
--- What is not counted is not listed; what is counted is.
-pub not-listed : (due : Bool) (x used : ℕ) (l : List ℕ) → due ≡ false → (used ≡ usedListed due x used l) × (l ≡ placesListed due x used l)
-unfolding usedListed placesListed
-not-listed due x used l e = (sym (off _ _ e), sym (off _ _ e))
-
-pub listed : (due : Bool) (x used : ℕ) (l : List ℕ) → due ≡ true
-    → (usedAfter x used l ≡ usedListed due x used l) × (placesAfter x used l ≡ placesListed due x used l)
-unfolding usedListed placesListed
-listed due x used l e = (sym (on _ _ e), sym (on _ _ e))
 
 -- That no link is listed twice leaves the numbers of refusal 6.
 pub numbers-alone : (p : Progress) (links feeIds : List ℕ) → twice (take (p .«links_used») links) ≡ false

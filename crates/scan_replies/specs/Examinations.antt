@@ -9,7 +9,7 @@ use Rattle.scan_cdp.specs.Answers.{Found, examinedAnswer, wants}
 use Rattle.scan_cdp.specs.Steps.{Entry, ended, noMarks, unchanged, withLinks}
 use Rattle.scan_cdp.specs.declared.Part.{Part}
 use Rattle.scan_cdp.specs.declared.Progress.{Progress}
-use Rattle.scan_window.specs.declared.Examination.{Examination}
+use Rattle.scan_replies.specs.declared.Examination.{Examination}
 
 -- An examination's reply, with the links and FEE ids that it leaves (W8).
 abbrev pub examinationOf : Examination → List ℕ → List ℕ → Entry Part

@@ -4,10 +4,10 @@ use borrow.Author.Tests.{not-false, not-true}
 use Rattle.basis.specs.Pick.{on, off}
 use Rattle.scan_cdp.specs.Steps.{ended}
 use Rattle.scan_cdp.specs.declared.OpenLoad.the-variants.{None}
-use Rattle.scan_window.specs.ExaminationsLaws.{nothing-changed}
+use Rattle.scan_replies.specs.ExaminationsLaws.{nothing-changed}
 use borrow.Author.Needs.{needs}
-use Rattle.scan_window.proofs.lacking.Statement.{statement}
-use Rattle.scan_window.proofs.lacking.Tie as tie
+use Rattle.scan_replies.proofs.lacking.Statement.{statement}
+use Rattle.scan_replies.proofs.lacking.Tie as tie
 
 unchanged-requires : tie.Need-unchanged-requires
 unchanged-requires c κs = search needs

@@ -2,9 +2,9 @@
 use mathlib.Core.Path.{_∙_}
 use borrow.Author.Tests.{not-false, not-true}
 use borrow.Author.Needs.{needs}
-use Rattle.scan_window.specs.ExaminationsLaws.{listed, not-listed}
-use Rattle.scan_window.proofs.list_link.Statement.{statement}
-use Rattle.scan_window.proofs.list_link.Tie as tie
+use Rattle.scan_lists.specs.ListedLaws.{listed, not-listed}
+use Rattle.scan_lists.proofs.list_link.Statement.{statement}
+use Rattle.scan_lists.proofs.list_link.Tie as tie
 
 returns : tie.Need-returns
 returns c =

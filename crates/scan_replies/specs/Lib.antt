@@ -1,0 +1,2 @@
+pub mod Examinations
+pub mod ExaminationsLaws
