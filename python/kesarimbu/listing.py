@@ -4,6 +4,7 @@ The command line is made of this. So it imports little: that alone would take lo
 """
 from __future__ import annotations
 
+import os
 from ctypes import c_uint8, c_uint16
 
 from . import lending, library, plain, structs
@@ -14,10 +15,11 @@ TYPE_CHECKING = False
 if TYPE_CHECKING:
     from typing import Iterator
 
-    from .windows import Source
+    from .windows import Source, Windows
 
-# How many bytes are read at a time, and how many bytes of lines are made at a time: so few that both stay in the processor's cache.
-WINDOW = 1 << 19
+# How many bytes are read at a time, and how many bytes of lines are made at a time: few enough for the processor's caches, and so many that
+# handing a window from thread to thread costs little.
+WINDOW = 1 << 20
 ROOM = 1 << 18
 
 
@@ -54,7 +56,7 @@ class Listing:
         self._fee_ids = (c_uint16 * places)()
         self._out = (c_uint8 * room)()
         self._text = memoryview(self._out).cast("B")
-        self._windows = OneBuffer(source, window)
+        self._windows = _windows_of(source, window, skip_payload)
         self.refusal: Refused | None = None
         self.unsound = 0
 
@@ -108,3 +110,12 @@ class Listing:
             raise Refused(BUFFER_TOO_SHORT, (listed.length,))
         self.refusal = refusal
         self.close()
+
+
+def _windows_of(source: Source, size: int, skip_payload: bool) -> Windows:
+    """The windows of a listing. A long file whose payload is read is read ahead; other sources may let a reader wait, or skip payload."""
+    is_path = not hasattr(source, "read")
+    if is_path and not skip_payload and os.path.isfile(source) and os.path.getsize(source) > size:
+        from .ahead import ReadAhead
+        return ReadAhead(source, size)
+    return OneBuffer(source, size)

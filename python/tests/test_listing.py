@@ -1,9 +1,14 @@
 """The listing through the module: held to rows and verdicts of the exact layer, whatever window and buffer it has."""
+import _thread
+import errno
+import gc
 import io
 import itertools
+import time
 import unittest
 
 from kesarimbu import Listing, Refused, Validator, packets, row
+from kesarimbu.ahead import SLACK, ReadAhead
 from .sources import Pieces, file_with
 from make_recordings import every, header
 
@@ -91,6 +96,73 @@ class Listings(unittest.TestCase):
     def test_settings_that_are_none(self):
         self.assertRaises(OverflowError, Listing, io.BytesIO(), version=256)
         self.assertRaises(Refused, Listing, io.BytesIO(), stave="L5")
+
+
+class Failing(io.RawIOBase):
+    """A source that gives 64 bytes, and then fails."""
+
+    def __init__(self):
+        self.reads = 0
+
+    def readable(self):
+        return True
+
+    def readinto(self, buffer):
+        self.reads += 1
+        if self.reads > 1:
+            raise OSError(errno.EIO, "a worn disk")
+        buffer[:64] = SOUND
+        return 64
+
+
+class ReadsAhead(unittest.TestCase):
+    """A file that is longer than a window is read by a second thread."""
+
+    def test_recordings_of_every_kind(self):
+        settings = [{}, {"link": 1}, {"stave": "L5_42"}, {"fee": 6, "stats": False}]
+        turns = zip(itertools.cycle(settings), itertools.cycle([64, 65, 777, 5000]))
+        for (name, recording), (asked, window) in zip(every(9), turns):
+            with self.subTest(name, window=window, **asked), file_with(recording) as path:
+                self.assertEqual(listed(path, window=window, **asked), composed(recording, **asked))
+
+    def test_windows_that_start_anywhere(self):
+        """Also behind all that was read, far behind, and with more bytes than two buffers have room for."""
+        recording = bytes(range(256)) * 1024
+        for places in ([0, 10, 200, 4000, 4000], [5, 100_000, 250_000], [262_000, 262_144, 300_000], [70, 70_000, 262_143]):
+            for size in (1, 100, SLACK, 3 * SLACK):
+                windows = ReadAhead(io.BytesIO(recording), 777)
+                for place in places:
+                    windows.move(place, size)
+                    self.assertLessEqual(windows.first, place)
+                    self.assertEqual(bytes(windows.window[:size]), recording[place:place + size])
+                    self.assertTrue(windows.last or len(windows.window) >= size)
+                windows.close()
+
+    def test_a_read_that_fails_is_told_where_its_bytes_are_wanted(self):
+        windows = ReadAhead(Failing(), 64)
+        windows.move(0, 64)
+        self.assertEqual(bytes(windows.window), SOUND)
+        for _ in range(2):
+            with self.assertRaises(OSError) as raised:
+                windows.move(64, 64)
+            self.assertEqual(raised.exception.errno, errno.EIO)
+        windows.close()
+
+    def test_the_thread_ends(self):
+        before = _thread._count()
+        with file_with(SOUND * 100) as path:
+            with Listing(path, window=640, room=1024) as closed:
+                next(iter(closed))
+            whole = Listing(path, window=640)
+            list(whole)
+            forgotten = Listing(path, window=640, room=1024)
+            next(iter(forgotten))
+            del forgotten
+            gc.collect()
+        deadline = time.monotonic() + 10
+        while _thread._count() > before and time.monotonic() < deadline:
+            time.sleep(0.001)
+        self.assertEqual(_thread._count(), before)
 
 
 if __name__ == "__main__":
