@@ -1,4 +1,5 @@
 pub mod Pick
+pub mod PickLaws
 pub mod Refusals
 pub mod Bits
 pub mod Bytes

@@ -6,7 +6,8 @@ use mathlib.Core.List.{List}
 use native.Mathlib.Omega.{arith}
 use lib.ListN.{drop, length, take}
 use lib.Seq.{take-all}
-use Rattle.basis.specs.Pick.{off, on, pick}
+use Rattle.basis.specs.Pick.{pick}
+use Rattle.basis.specs.PickLaws.{off, on}
 use Rattle.scan_cdp.specs.Loads.{Loaded, loaded}
 use Rattle.scan_cdp.specs.Steps.{newState}
 use Rattle.scan_cdp.specs.declared.Part.{Part}

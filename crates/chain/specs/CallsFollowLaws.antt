@@ -3,7 +3,8 @@ use Prim.Native.Nat.{ℕ, _+_, _/_}
 use mathlib.Core.Path.{_≡_, ap, sym, _∙_}
 use mathlib.Core.List.{List, []}
 use lib.ListN.{length}
-use Rattle.basis.specs.Pick.{off, pick}
+use Rattle.basis.specs.Pick.{pick}
+use Rattle.basis.specs.PickLaws.{off}
 use Rattle.scan_cdp.specs.Loads.{loaded, noLoadMarks}
 use Rattle.scan_cdp.specs.Steps.{Entry, unchanged}
 use Rattle.scan_cdp.specs.declared.Settings.{Settings}

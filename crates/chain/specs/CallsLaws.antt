@@ -7,7 +7,7 @@ use native.Mathlib.Omega.{arith}
 use borrow.Author.Tests.{ne-eqb}
 use lib.Dec.{ltb}
 use lib.ListN.{length, drop}
-use Rattle.basis.specs.Pick.{by-test}
+use Rattle.basis.specs.PickLaws.{by-test}
 use Rattle.basis.specs.Refusals.{Answer, gives, refuses}
 use Rattle.scan_cdp.specs.Answers.{Found, handed, passed, wants}
 use Rattle.scan_cdp.specs.Loads.{isPassed}

@@ -6,7 +6,8 @@ use mathlib.Core.List.{List, [], _∷_, _++_}
 use native.Mathlib.Omega.{arith}
 use borrow.Author.Tests.{le-leb}
 use lib.ListN.{length, drop}
-use Rattle.basis.specs.Pick.{by-test, off, on, pick}
+use Rattle.basis.specs.Pick.{pick}
+use Rattle.basis.specs.PickLaws.{by-test, off, on}
 use Rattle.scan_cdp.specs.Steps.{Entry, ended, unusable}
 use Rattle.scan_cdp.specs.declared.Settings.{Settings}
 use Rattle.scan_laws.specs.StepLaws.{entry-cases, step-cases}

@@ -8,7 +8,8 @@ use borrow.Author.Tests.{eqb-true, le-ltb, lt-ltb, ltb-false}
 use lib.Dec.{eqb, ltb}
 use lib.ListN.{length, take, drop, length-take}
 use lib.Seq.{drop-drop}
-use Rattle.basis.specs.Pick.{by-test, neither, off, on, pick}
+use Rattle.basis.specs.Pick.{pick}
+use Rattle.basis.specs.PickLaws.{by-test, neither, off, on}
 use Rattle.basis.specs.Refusals.{refuses}
 use Rattle.rdh.specs.declared.rdh_cru.RdhCru.{RdhCru}
 use Rattle.serde_rdh.specs.Layout.{decoded}

@@ -20,7 +20,7 @@ pub struct Replayed {
 
 // Makes the calls, as many as all four lists have, up to the first reply that ends the chain. A call is a load or an examination, on the
 // window that has so many bytes of the recording from a first place on, or as many as there are; the window is the last if that is asked
-// for and it reaches the recording's end.
+// for and it reaches the recording's end. As in a call, parts of the recording are said by their bytes.
 pub fn replay(
     set: Settings,
     progress: Progress,

@@ -50,7 +50,8 @@ struct Made {
     progress: Progress,
 }
 
-// One call, on the window that it asks for.
+// One call, on the window that it asks for. The contract says the bytes of the window and of a payload; by which start and length a `Part`
+// names them is left free.
 pub fn call(
     set: Settings,
     progress: Progress,

@@ -8,7 +8,7 @@ use native.Mathlib.Omega.{arith}
 use borrow.Author.Tests.{eq-eqb, ne-eqb, eqb-true, eqb-false, lt-ltb, ltb-true, not-true}
 use lib.Dec.{eqb, ltb}
 use lib.ListN.{length, getD, drop, length-append}
-use Rattle.basis.specs.Pick.{on, off, by-test}
+use Rattle.basis.specs.PickLaws.{on, off, by-test}
 use Rattle.basis.specs.Refusals.{Answer, gives, refuses}
 use Rattle.its.specs.FeeIds.{feeIdOf}
 use Rattle.its_names_numbers.specs.Numbers.{plusSign, allDigits, valueOf, digitsNumber, numberOf}

@@ -8,7 +8,7 @@ use native.Mathlib.Omega.{arith}
 use lib.Dec.{eqb, leb}
 use lib.ListN.{length, getD, length-append}
 use borrow.Author.Tests.{leb-true, le-leb, eqb-true, eqb-false}
-use Rattle.basis.specs.Pick.{by-test}
+use Rattle.basis.specs.PickLaws.{by-test}
 use Rattle.its_names_numbers.specs.Numbers.{plusSign, digit0, digit9, isDigit, allDigits, valueOf, digitsNumber, numberOf}
 use Rattle.its_names_numbers.specs.NumberGrammar.{Digit, AllDigits, Digits, Number, plain, signed}
 use Rattle.its_names_numbers.specs.Parsing.{numberParsed, digitsParsed}

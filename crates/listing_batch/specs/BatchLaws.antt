@@ -9,7 +9,8 @@ use lib.Dec.{ltb}
 use lib.ListN.{length, length-append}
 use lib.Seq.{length-sets, sets}
 use mir.Val.{boolByte}
-use Rattle.basis.specs.Pick.{off, on, pick}
+use Rattle.basis.specs.Pick.{pick}
+use Rattle.basis.specs.PickLaws.{off, on}
 use Rattle.basis.specs.Refusals.{Answer, gives, refuses}
 use Rattle.rdh.specs.declared.rdh_cru.RdhCru.{RdhCru}
 use Rattle.text.specs.Put.{Put}

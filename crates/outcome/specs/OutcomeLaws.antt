@@ -1,7 +1,8 @@
 -- Laws of the outcome.
 use mathlib.Core.Bool.{Bool, true, false, _&&_}
 use mathlib.Core.Path.{_≡_, refl, _∙_}
-use Rattle.basis.specs.Pick.{on, off, pick}
+use Rattle.basis.specs.Pick.{pick}
+use Rattle.basis.specs.PickLaws.{on, off}
 use Rattle.rdh.specs.declared.rdh_cru.RdhCru.{RdhCru}
 use Rattle.scan_cdp.specs.Outcomes.{badMemorySize, badOffset, filtered, isMatch, memorySize, offset, skipped, outcomeOf}
 use Rattle.scan_cdp.specs.declared.Settings.{Settings}

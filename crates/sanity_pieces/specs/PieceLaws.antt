@@ -6,7 +6,8 @@ use mathlib.Core.Path.{_≡_, sym, _∙_}
 use mathlib.Core.List.{List, [], _++_}
 use borrow.Author.Tests.{not-true, not-false}
 use lib.ListN.{length}
-use Rattle.basis.specs.Pick.{pick, on, off}
+use Rattle.basis.specs.Pick.{pick}
+use Rattle.basis.specs.PickLaws.{on, off}
 use Rattle.text.specs.Ascii.{ascii}
 use Rattle.text.specs.Put.{Put}
 use Rattle.text.specs.PutLaws.{and-then, ended, put-nothing, respelled}

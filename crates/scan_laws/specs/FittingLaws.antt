@@ -8,7 +8,7 @@ use native.Mathlib.Omega.{arith}
 use lib.Dec.{ltb}
 use lib.ListN.{length}
 use borrow.Author.Tests.{le-ltb, ltb-false}
-use Rattle.basis.specs.Pick.{by-test, neither}
+use Rattle.basis.specs.PickLaws.{by-test, neither}
 use Rattle.scan_cdp.specs.Loads.{Loaded, isPassed, loaded, loadedFrom, noLoadMarks}
 use Rattle.scan_cdp.specs.Steps.{limit, unusable}
 use Rattle.scan_cdp.specs.Windows.{examined, outside}

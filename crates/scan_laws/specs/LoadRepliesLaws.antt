@@ -7,7 +7,8 @@ use mathlib.Core.Path.{_≡_, refl, ap, sym, _∙_}
 use native.Mathlib.Omega.{arith}
 use lib.Dec.{eqb}
 use lib.ListN.{length, drop}
-use Rattle.basis.specs.Pick.{by-test, neither, off, pick}
+use Rattle.basis.specs.Pick.{pick}
+use Rattle.basis.specs.PickLaws.{by-test, neither, off}
 use Rattle.basis.specs.Refusals.{Answer, gives, refuses}
 use Rattle.scan_cdp.specs.Answers.{Found, handed, passed, wants}
 use Rattle.scan_cdp.specs.Loads.{Loaded, eitherInitial, isPassed, loaded, loadedFrom, noLoadMarks, replied, together}

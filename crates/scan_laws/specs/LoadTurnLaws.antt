@@ -6,7 +6,8 @@ use mathlib.Core.List.{List, []}
 use native.Mathlib.Omega.{arith}
 use native.Mathlib.Numerals.{add-one}
 use lib.ListN.{length, take}
-use Rattle.basis.specs.Pick.{on, off, pick}
+use Rattle.basis.specs.Pick.{pick}
+use Rattle.basis.specs.PickLaws.{on, off}
 use Rattle.basis.specs.Refusals.{refuses}
 use Rattle.stats.specs.Lists.{twice}
 use Rattle.scan_cdp.specs.Loads.{isPassed, loaded, loadedFrom, noLoadMarks, replied, together}

@@ -6,7 +6,7 @@ use mathlib.Core.Path.{_≡_, subst}
 use native.Mathlib.Omega.{arith}
 use borrow.Author.Tests.{ltb-false, ltb-true}
 use lib.Dec.{ltb}
-use Rattle.basis.specs.Pick.{by-test, neither}
+use Rattle.basis.specs.PickLaws.{by-test, neither}
 use Rattle.rdh.specs.declared.rdh_cru.RdhCru.{RdhCru}
 use Rattle.scan_cdp.specs.Steps.{outcomeIn}
 use Rattle.scan_cdp.specs.Outcomes.{badOffset, filtered, isMatch, memorySize, offset, outcomeOf, skipped}

@@ -9,7 +9,8 @@ use borrow.Author.Tests.{eqb-true, le-ltb, leb-true, lt-ltb}
 use lib.Dec.{eqb, leb, ltb}
 use lib.IntN.{ℤ}
 use lib.ListN.{length, take}
-use Rattle.basis.specs.Pick.{by-test, pick}
+use Rattle.basis.specs.Pick.{pick}
+use Rattle.basis.specs.PickLaws.{by-test}
 use Rattle.basis.specs.Refusals.{refuses}
 use Rattle.filter.specs.Filter.{enabled}
 use Rattle.rdh.specs.declared.rdh_cru.RdhCru.{RdhCru}

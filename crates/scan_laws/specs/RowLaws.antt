@@ -9,7 +9,8 @@ use borrow.Author.Tests.{le-ltb, ltb-false, ltb-true, not-true}
 use lib.Dec.{ltb}
 use lib.IntN.{ℤ}
 use lib.ListN.{length, take, drop, length-drop, length-take}
-use Rattle.basis.specs.Pick.{by-test, off, on, pick}
+use Rattle.basis.specs.Pick.{pick}
+use Rattle.basis.specs.PickLaws.{by-test, off, on}
 use Rattle.basis.specs.Refusals.{Answer, gives, refuses}
 use Rattle.rdh.specs.declared.rdh_cru.RdhCru.{RdhCru}
 use Rattle.scan_cdp.specs.Answers.{Found, answerAs, passed}

@@ -5,7 +5,7 @@ use mathlib.Core.List.{List}
 use mathlib.Core.Path.{_≡_}
 use native.Mathlib.Omega.{arith}
 use lib.ListN.{length, length-drop}
-use Rattle.basis.specs.Pick.{by-test}
+use Rattle.basis.specs.PickLaws.{by-test}
 use Rattle.scan_cdp.specs.Loads.{Loaded, isPassed, loaded, loadedFrom, noLoadMarks}
 use Rattle.scan_laws.specs.Runs.{closes, isWant, runEnd}
 use Rattle.scan_laws.specs.StepLaws.{examined-moves, examined-passed, examined-wants, shownTo}

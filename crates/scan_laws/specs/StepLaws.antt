@@ -8,7 +8,7 @@ use borrow.Author.Tests.{eqb-false, ltb-false, ltb-true, ne-eqb, not-true}
 use lib.Dec.{ltb}
 use lib.IntN.{ℤ}
 use lib.ListN.{length, take, length-drop}
-use Rattle.basis.specs.Pick.{by-test, neither, on}
+use Rattle.basis.specs.PickLaws.{by-test, neither, on}
 use Rattle.basis.specs.Refusals.{Answer, gives, refuses}
 use Rattle.rdh.specs.declared.rdh_cru.RdhCru.{RdhCru}
 use Rattle.serde_rdh.specs.Layout.{decoded}

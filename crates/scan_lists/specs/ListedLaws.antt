@@ -3,7 +3,7 @@ use Prim.Native.Nat.{ℕ}
 use mathlib.Core.Bool.{Bool, true, false}
 use mathlib.Core.Path.{_≡_, sym}
 use mathlib.Core.List.{List}
-use Rattle.basis.specs.Pick.{off, on}
+use Rattle.basis.specs.PickLaws.{off, on}
 use Rattle.stats.specs.Lists.{placesAfter, usedAfter}
 use Rattle.scan_cdp.specs.Steps.{placesListed, usedListed}
 

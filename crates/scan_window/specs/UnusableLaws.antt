@@ -6,7 +6,7 @@ use mathlib.Core.List.{List}
 use borrow.Author.Tests.{ltb-false}
 use lib.Dec.{ltb}
 use lib.ListN.{length, take}
-use Rattle.basis.specs.Pick.{neither}
+use Rattle.basis.specs.PickLaws.{neither}
 use Rattle.stats.specs.Lists.{twice}
 use Rattle.scan_cdp.specs.Steps.{limit, numbersUnusable, unusable, withLinks}
 use Rattle.scan_cdp.specs.Windows.{examined, examinedUnless, outside}

@@ -13,7 +13,8 @@ use lib.ListN.{length, take, drop, length-append}
 use lib.Seq.{take-add}
 use Rattle.basis.specs.Bytes.{Bytes, bytesOf, numberAt}
 use Rattle.basis.specs.BytesLaws.{length-bytesOf, bytesOf-numberAt, numberAt-bytesOf, numberAt-take}
-use Rattle.basis.specs.Pick.{on, off, pick}
+use Rattle.basis.specs.Pick.{pick}
+use Rattle.basis.specs.PickLaws.{on, off}
 use Rattle.basis.specs.Refusals.{Answer, gives, refuses}
 use Rattle.rdh.specs.declared.rdh_cru.RdhCru.{RdhCru}
 use Rattle.serde_rdh.specs.Layout.{Field, fields, span, value, Tiles, header, number, decode, decoded, bytesIn, encoded, InRange}

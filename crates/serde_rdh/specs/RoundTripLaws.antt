@@ -6,7 +6,7 @@ use native.Mathlib.Omega.{arith}
 use borrow.Author.Tests.{le-ltb}
 use lib.ListN.{length, take, drop, length-append, take-append-drop}
 use Rattle.basis.specs.Bytes.{Bytes}
-use Rattle.basis.specs.Pick.{off}
+use Rattle.basis.specs.PickLaws.{off}
 use Rattle.basis.specs.Refusals.{gives}
 use Rattle.rdh.specs.declared.rdh_cru.RdhCru.{RdhCru}
 use Rattle.serde_rdh.specs.Layout.{decode, decoded, encoded, encodedInto, InRange}

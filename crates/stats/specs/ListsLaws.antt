@@ -9,7 +9,7 @@ use borrow.Author.Tests.{ne-eqb, eqb-false, lt-ltb, le-ltb, le-leb, lt-leb, ltb-
 use lib.Dec.{eqb, ltb}
 use lib.ListN.{length, take, set, length-set}
 use lib.Seq.{take-suc-set}
-use Rattle.basis.specs.Pick.{on, off, neither}
+use Rattle.basis.specs.PickLaws.{on, off, neither}
 use Rattle.stats.specs.Lists.{full, goesIn, member, placesAfter, twice, usedAfter}
 
 -- ---- a number that is met

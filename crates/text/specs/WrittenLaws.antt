@@ -8,7 +8,7 @@ use borrow.Author.Tests.{le-leb, lt-leb}
 use lib.IntN.{pos}
 use lib.ListN.{length, drop}
 use lib.Seq.{sets-eq}
-use Rattle.basis.specs.Pick.{on, off}
+use Rattle.basis.specs.PickLaws.{on, off}
 use Rattle.basis.specs.Refusals.Answer.{gives, refuses}
 use Rattle.text.specs.declared.Written.the-variants.{Text, TooShort}
 use Rattle.text.specs.Put.{Put, lastPlace}

@@ -9,7 +9,8 @@ use borrow.Author.Tests.{eq-eqb, eqb-true, eqb-false}
 use lib.Dec.{eqb, leb, ltb}
 use lib.IntN.{pos}
 use lib.ListN.{getD, length, length-append}
-use Rattle.basis.specs.Pick.{pick, on}
+use Rattle.basis.specs.Pick.{pick}
+use Rattle.basis.specs.PickLaws.{on}
 use Rattle.basis.specs.Refusals.Answer.{gives, refuses}
 use Rattle.text.specs.declared.Written.{Written}
 use Rattle.text.specs.Ascii.{ascii}

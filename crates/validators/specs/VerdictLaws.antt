@@ -6,7 +6,7 @@ use mathlib.Core.List.{List, []}
 use native.Mathlib.Omega.{arith}
 use lib.ListN.{length, length-append}
 use mathlib.Core.Logic.{_↔_}
-use Rattle.basis.specs.Pick.{on, off}
+use Rattle.basis.specs.PickLaws.{on, off}
 use Rattle.rdh.specs.declared.rdh_cru.RdhCru.{RdhCru}
 use Rattle.serde_rdh.specs.Layout.{InRange}
 use Rattle.text.specs.Put.{Put}

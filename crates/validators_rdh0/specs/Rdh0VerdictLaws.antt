@@ -3,7 +3,7 @@ use mathlib.Core.Bool.{Bool, true, false, not}
 use mathlib.Core.Path.{_≡_, refl, ap, sym, _∙_}
 use mathlib.Core.List.{List, [], _++_}
 use borrow.Author.Tests.{not-true}
-use Rattle.basis.specs.Pick.{neither, off}
+use Rattle.basis.specs.PickLaws.{neither, off}
 use Rattle.rdh.specs.declared.rdh0.Rdh0.{Rdh0}
 use Rattle.rdh.specs.declared.rdh_cru.RdhCru.{RdhCru}
 use Rattle.sanity.specs.Tests.{Test, allTests, anyFails, cruTests, rdh0Tests, rdh1Tests, rdh2Tests, rdh3Tests, section, sound}

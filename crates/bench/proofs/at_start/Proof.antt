@@ -1,6 +1,6 @@
 -- The whole recording, or nothing yet: by the test.
 use mathlib.Core.Path.{sym, _∙_}
-use Rattle.basis.specs.Pick.{off, on}
+use Rattle.basis.specs.PickLaws.{off, on}
 use borrow.Author.Needs.{needs}
 use Rattle.bench.proofs.at_start.Statement.{statement}
 use Rattle.bench.proofs.at_start.Tie as tie

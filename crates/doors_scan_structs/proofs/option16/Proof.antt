@@ -1,6 +1,6 @@
 -- Each branch is one side of the choice.
 use mathlib.Core.Path.{sym}
-use Rattle.basis.specs.Pick.{on}
+use Rattle.basis.specs.PickLaws.{on}
 use borrow.Author.Needs.{needs}
 use Rattle.doors_scan_structs.proofs.option16.Statement.{statement}
 use Rattle.doors_scan_structs.proofs.option16.Tie as tie

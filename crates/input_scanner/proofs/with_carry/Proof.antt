@@ -1,6 +1,6 @@
 -- One more, or the same.
 use mathlib.Core.Path.{sym}
-use Rattle.basis.specs.Pick.{on}
+use Rattle.basis.specs.PickLaws.{on}
 use borrow.Author.Needs.{needs}
 use Rattle.input_scanner.proofs.with_carry.Statement.{statement}
 use Rattle.input_scanner.proofs.with_carry.Tie as tie

@@ -1,7 +1,7 @@
 -- The three tests are the two orders of step 2 in a row.
 use mathlib.Core.Path.{sym, _∙_}
 use mathlib.Core.Bool.{Bool}
-use Rattle.basis.specs.Pick.{on, off}
+use Rattle.basis.specs.PickLaws.{on, off}
 use Rattle.outcome.specs.OutcomeLaws.{tests-in-a-row}
 use borrow.Author.Needs.{needs}
 use Rattle.outcome.proofs.outcome_of.Statement.{statement}

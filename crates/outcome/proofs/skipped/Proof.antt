@@ -1,6 +1,6 @@
 -- A negative distance or not.
 use mathlib.Core.Path.{sym}
-use Rattle.basis.specs.Pick.{on, off}
+use Rattle.basis.specs.PickLaws.{on, off}
 use borrow.Author.Tests.{lt-ltb, le-ltb}
 use Rattle.scan_cdp.specs.Outcomes.{skipped}
 use Rattle.outcome.proofs.skipped.Statement.{statement}

@@ -1,6 +1,6 @@
 -- Raised or not.
 use mathlib.Core.Path.{sym, _∙_}
-use Rattle.basis.specs.Pick.{on, off}
+use Rattle.basis.specs.PickLaws.{on, off}
 use Rattle.scan_cdp.specs.Steps.{raised}
 use borrow.Author.Needs.{needs}
 use Rattle.outcome_counts.proofs.raised.Statement.{statement}

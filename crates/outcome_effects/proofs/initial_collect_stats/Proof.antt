@@ -2,7 +2,7 @@
 use mathlib.Core.Bool.{true}
 use mathlib.Core.Path.{ap, sym, _∙_}
 use Prim.Native.Nat.{ℕ}
-use Rattle.basis.specs.Pick.{on, off}
+use Rattle.basis.specs.PickLaws.{on, off}
 use Rattle.scan_cdp.specs.Steps.{initialOf}
 use Rattle.scan_cdp.specs.declared.Initial.the-variants.{Report}
 use borrow.Author.Needs.{needs}

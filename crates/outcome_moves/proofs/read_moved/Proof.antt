@@ -2,7 +2,7 @@
 use Prim.Native.Nat.{ℕ, _+_}
 use mathlib.Core.Path.{_≡_, ap, sym, _∙_}
 use native.Mathlib.Omega.{arith}
-use Rattle.basis.specs.Pick.{on, off}
+use Rattle.basis.specs.PickLaws.{on, off}
 use Rattle.scan_cdp.specs.Steps.{placeAfter}
 use borrow.Author.Needs.{needs}
 use Rattle.outcome_moves.proofs.read_moved.Statement.{statement}

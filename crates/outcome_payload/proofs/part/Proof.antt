@@ -1,6 +1,6 @@
 -- An empty part is at the start.
 use mathlib.Core.Path.{sym}
-use Rattle.basis.specs.Pick.{on, off}
+use Rattle.basis.specs.PickLaws.{on, off}
 use borrow.Author.Tests.{eq-eqb, ne-eqb}
 use Rattle.scan_cdp.specs.Windows.{partAt}
 use Rattle.outcome_payload.proofs.part.Statement.{statement}

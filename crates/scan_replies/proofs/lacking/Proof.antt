@@ -1,7 +1,7 @@
 -- A want where the window is not the last, and otherwise refusal 1.
 use mathlib.Core.Path.{sym, _∙_}
 use borrow.Author.Tests.{not-false, not-true}
-use Rattle.basis.specs.Pick.{on, off}
+use Rattle.basis.specs.PickLaws.{on, off}
 use Rattle.scan_cdp.specs.Steps.{ended}
 use Rattle.scan_cdp.specs.declared.OpenLoad.the-variants.{None}
 use Rattle.scan_replies.specs.ExaminationsLaws.{nothing-changed}

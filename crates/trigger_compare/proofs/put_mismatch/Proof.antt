@@ -2,7 +2,7 @@
 use mathlib.Core.Path.{refl, sym}
 use native.Mathlib.Omega.{arith}
 use borrow.Author.Tests.{eq-eqb, ne-eqb}
-use Rattle.basis.specs.Pick.{off, on}
+use Rattle.basis.specs.PickLaws.{off, on}
 use Rattle.text.specs.PutLaws.{and-then, put-nothing, respelled}
 use Rattle.text.specs.PutLaws.{same-length as kept-length}
 use Rattle.trigger_texts.specs.Mismatches.{mismatchOf}

@@ -1,6 +1,6 @@
 -- Each branch is one side of a choice.
 use mathlib.Core.Path.{sym, _∙_}
-use Rattle.basis.specs.Pick.{off, on}
+use Rattle.basis.specs.PickLaws.{off, on}
 use borrow.Author.Needs.{needs}
 use Rattle.doors_verdict.proofs.plain.header_id.Statement.{statement}
 use Rattle.doors_verdict.proofs.plain.header_id.Tie as tie
