@@ -6,6 +6,7 @@ pub mod Calls
 pub mod PacketLists
 -- What is stated.
 pub mod ChainEntriesClaims
+pub mod SkipsClaims
 pub mod CallsFollowClaims
 pub mod PacketsClaims
 pub mod AddedBytesClaims
@@ -13,6 +14,7 @@ pub mod AddedBytesClaims
 pub mod ChainLaws
 pub mod ChainEntriesLaws
 pub mod WalkLaws
+pub mod SkipsLaws
 pub mod FollowingLaws
 pub mod CallsLaws
 pub mod WindowOfLaws

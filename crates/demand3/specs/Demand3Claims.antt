@@ -3,6 +3,7 @@ use Rattle.chain.specs.AddedBytesClaims.{AddedBytes}
 use Rattle.chain.specs.CallsFollowClaims.{CallsFollow, LeavesRest}
 use Rattle.chain.specs.ChainEntriesClaims.{Allowance, EntryByEntry, OnlyEntries, RefusedLast}
 use Rattle.chain.specs.PacketsClaims.{EachOnce, ExactlyMatching, MatchingInTurn, NoneMissing, ReachesEnd}
+use Rattle.chain.specs.SkipsClaims.{EachSkipsAhead}
 use Rattle.scan_laws.specs.LoadRepliesClaims.{LoadsTellAll}
 use Rattle.validators.specs.VerdictTextsClaims.{TextsLeft}
 use Rattle.validators.specs.VerdictsClaims.{Follows}
@@ -16,6 +17,8 @@ pub record Demand3 : Type 0 where
   pub kinds : OnlyEntries
   -- C3: the last entry of a chain is refused, and no other one is.
   pub last : RefusedLast
+  -- S10: behind each header that is passed or handed out, 0 to 10,000 are skipped.
+  pub skips : EachSkipsAhead
   -- S11: a chain has length / 64 + 1 entries at most, whatever more it is allowed.
   pub allowed : Allowance
   -- D3.1: for any list of calls on windows of any recording, the complete replies are the chain's entries, cut into consecutive runs.

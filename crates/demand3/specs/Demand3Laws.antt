@@ -3,6 +3,7 @@ use Rattle.chain.specs.AddedBytesLaws.{added-bytes}
 use Rattle.chain.specs.CallsFollowLaws.{calls-follow, leaves-rest}
 use Rattle.chain.specs.ChainEntriesLaws.{allowance, entry-by-entry, only-entries, refused-last}
 use Rattle.chain.specs.PacketsLaws.{each-once, exactly-matching, matching-in-turn, none-missing, reaches-end}
+use Rattle.chain.specs.SkipsLaws.{each-skips-ahead}
 use Rattle.scan_laws.specs.LoadRepliesLaws.{loads-tell-all}
 use Rattle.validators.specs.VerdictTextsLaws.{texts-left}
 use Rattle.validators.specs.VerdictsLaws.{follows}
@@ -15,6 +16,7 @@ demand-3 =
       entries = entry-by-entry;
       kinds = only-entries;
       last = refused-last;
+      skips = each-skips-ahead;
       allowed = allowance;
       calls = calls-follow;
       marks = loads-tell-all;

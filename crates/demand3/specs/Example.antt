@@ -1,25 +1,31 @@
--- An example, which no public contract cites: D3.1 on a small recording, computed. There are two packets of 64 bytes, and four
--- calls on windows that meet the premises. The replies and the chain are written out, so that a reader sees that they agree.
+-- Examples, which no public contract cites. D3.1 on a small recording, computed: there are two packets of 64 bytes, and four calls on
+-- windows that meet the premises. The replies and the chain are written out, so that a reader sees that they agree. Then both ends of S10.
 use Prim.Native.Nat.{ℕ}
 use mathlib.Core.Bool.{Bool, true, false, false≢true}
 use mathlib.Core.Path.{_≡_, refl}
-use mathlib.Core.List.{List, [], _∷_, _++_}
+use mathlib.Core.List.{List, [], _∷_, _++_, flatMap}
 use native.Mathlib.Omega.{arith}
+use lib.IntN.{ℤ, pos}
 use lib.ListN.{drop, take}
 use Rattle.basis.specs.Bytes.{bytesOf, little, numberAt}
+use Rattle.basis.specs.Pick.{pick}
 use Rattle.basis.specs.Refusals.{Answer, gives, refuses}
+use Rattle.filter.specs.declared.Option8.the-variants as Option8
+use Rattle.filter.specs.declared.Option16.the-variants as Option16
 use Rattle.serde_rdh.specs.Layout.{decoded, header, span}
-use Rattle.scan_cdp.specs.Answers.{Found, wants}
+use Rattle.scan_cdp.specs.Answers.{Found, passed, wants}
 use Rattle.scan_cdp.specs.Loads.{loaded, loadedFrom, together}
 use Rattle.scan_cdp.specs.Steps.{Entry, cut, ended, entryOf, initialOf, marksOf, newState, payloadOf, placeAfter, placesListed, progressAfter, raised, step, tallied, outcomeIn, unusable, usedListed}
-use Rattle.scan_cdp.specs.Outcomes.{filtered, skipped, outcomeOf}
+use Rattle.scan_cdp.specs.Outcomes.{filtered, offset, skipDistance, skipped, outcomeOf}
 use Rattle.scan_cdp.specs.Windows.{bytesAt, examined, outside, partAt}
+use Rattle.scan_cdp.specs.declared.Settings.{Settings}
 use Rattle.stats.specs.Counts.{added}
 use Rattle.stats.specs.Lists.{full, member, placesAfter, twice, usedAfter}
 use Rattle.chain.specs.Calls.{Call, Reply, Window, Windows, along, replyAnswer, examines, loads, replies, replyTo}
 use Rattle.chain.specs.CallsFollowLaws.{calls-follow}
-use Rattle.chain.specs.Chain.{Kept, chain, chainOf}
+use Rattle.chain.specs.Chain.{Kept, chain, chainOf, isRefused}
 use Rattle.chain.specs.Following.{repliesOf}
+use Rattle.chain.specs.Walk.{Met, walk, walkAlong}
 use Rattle.demand3.specs.MarkedCasesLaws.{_then_}
 use Rattle.demand3.specs.MarkedCases.{givenAt, plain, sample}
 
@@ -75,3 +81,38 @@ windows =
 
 pub calls-follow-here : replies plain start calls ≡ along plain start calls (chain recording plain start)
 calls-follow-here = calls-follow recording plain start calls windows
+
+-- ---- the ends of what is skipped (S10)
+
+-- A recording of one header that has this offset.
+abbrev alone : ℕ → List ℕ
+alone n = sample 0x502A n 0 0x4813
+
+-- Payload skipped, statistics off. With no filter the header is handed out ..
+abbrev handing : Settings
+handing = record { filter = plain .filter; «skip_payload» = true; stats = false }
+
+-- .. and where link 1 is asked for, it is passed: it is of link 2.
+abbrev passing : Settings
+passing =
+    record {
+      filter = record { «filter_link» = Option8.Some 1; «filter_fee» = Option16.None; «filter_its_stave» = Option16.None };
+      «skip_payload» = true;
+      stats = false;
+    }
+
+-- What a chain skips: for each entry that is not refused its answer, and the distance of its header.
+abbrev skips : List ℕ → Settings → List (Answer (Found (List ℕ)) × ℤ)
+skips bytes set =
+    flatMap (λ (m : Met). pick (isRefused (m .entry .answer)) [] ((m .entry .answer, skipDistance (offset (m .header))) ∷ []))
+    (walk bytes set start)
+
+-- The least, 0, is skipped behind an offset of 64 ..
+pub least-skipped : (skips (alone 64) passing ≡ (gives passed, pos 0) ∷ []) × (skips (alone 64) handing ≡ (givenAt 0 0x502A 64, pos 0) ∷ [])
+unfolding sample bytesOf numberAt little decoded header span walk walkAlong chain chainOf unusable twice member step entryOf outcomeIn outcomeOf filtered skipped full payloadOf cut placesListed usedListed progressAfter placeAfter marksOf tallied raised initialOf ended flatMap
+least-skipped = (refl, refl)
+
+-- .. and the most, 10,000, behind one of 10,064.
+pub most-skipped : (skips (alone 10064) passing ≡ (gives passed, pos 10000) ∷ []) × (skips (alone 10064) handing ≡ (givenAt 0 0x502A 10064, pos 10000) ∷ [])
+unfolding sample bytesOf numberAt little decoded header span walk walkAlong chain chainOf unusable twice member step entryOf outcomeIn outcomeOf filtered skipped full payloadOf cut placesListed usedListed progressAfter placeAfter marksOf tallied raised initialOf ended flatMap
+most-skipped = (refl, refl)

@@ -1,7 +1,7 @@
 // What the outcome of one header answers, and the initial mark.
 ghost use mathlib.Core.Path.{_≡_};
-ghost use lib.IntN.{subℕ};
 ghost use Rattle.scan_cdp.specs.Answers.{examinedAnswer, refusal};
+ghost use Rattle.scan_cdp.specs.Outcomes.{skipDistance};
 ghost use Rattle.scan_cdp.specs.Steps.{answerIn, initialOf};
 use rdh::rdh_cru::RDH_CRU_SIZE_BYTES;
 use rdh::rdh_cru::RdhCru;
@@ -59,7 +59,7 @@ pub fn refused(why: Refusal) -> Examined
 
 // The distance to the next header, from behind this one.
 fn skip_distance(offset: u16) -> i32
-    ensures { λ r. ⌜ r ≡ subℕ offset 64 ⌝ }
+    ensures { λ r. ⌜ r ≡ skipDistance offset ⌝ }
 {
     offset as i32 - RDH_CRU_SIZE_BYTES as i32
 }

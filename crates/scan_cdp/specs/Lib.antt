@@ -3,3 +3,5 @@ pub mod Outcomes
 pub mod Steps
 pub mod Windows
 pub mod Loads
+pub mod SkipDistanceClaims
+pub mod SkipDistanceLaws

@@ -2,6 +2,7 @@
 use Prim.Native.Nat.{ℕ}
 use mathlib.Core.Bool.{Bool, true, false, not, _||_, _&&_}
 use lib.Dec.{ltb}
+use lib.IntN.{ℤ, subℕ}
 use Rattle.basis.specs.Pick.{pick}
 use Rattle.filter.specs.Filter.{matches, targetOf}
 pub use Rattle.rdh.specs.PayloadSize.{payloadSize}
@@ -27,6 +28,10 @@ isMatch set h = matches (targetOf (set .filter)) (h .«link_id») (feeId h)
 -- Whether an offset is outside 64 to 10,064 (R2).
 abbrev pub badOffset : ℕ → Bool
 badOffset n = ltb n 64 || ltb 10064 n
+
+-- The distance to skip, from behind a header to the next one: its offset less 64, signed (R2).
+abbrev pub skipDistance : ℕ → ℤ
+skipDistance n = subℕ n 64
 
 -- Whether a memory size is too small for the header alone (R3).
 abbrev pub badMemorySize : ℕ → Bool

@@ -4,7 +4,7 @@ use Prim.Native.Nat.{ℕ, _+_, _^_, max}
 use mathlib.Core.Bool.{Bool, true, false, not, _||_, _&&_}
 use mathlib.Core.List.{List, [], _∷_}
 use lib.Dec.{eqb, ltb}
-use lib.IntN.{ℤ, pos, subℕ}
+use lib.IntN.{pos}
 use lib.ListN.{length, take, drop, replicate}
 use Rattle.basis.specs.Pick.{pick}
 use Rattle.basis.specs.Refusals.{Answer, gives, refuses}
@@ -16,7 +16,7 @@ use Rattle.stats.specs.Counts.{added, fullCount}
 use Rattle.stats.specs.Lists.{full, placesAfter, twice, usedAfter}
 use Rattle.stats.specs.declared.Count.{Count}
 use Rattle.scan_cdp.specs.Answers.{Found, answerAs, handed, passed}
-use Rattle.scan_cdp.specs.Outcomes.{isCounted, feeId, handsOut, matched, memorySize, offset, payloadSize, outcomeOf}
+use Rattle.scan_cdp.specs.Outcomes.{isCounted, feeId, handsOut, matched, memorySize, offset, payloadSize, outcomeOf, skipDistance}
 use Rattle.scan_cdp.specs.declared.BytePlace.{BytePlace}
 use Rattle.scan_cdp.specs.declared.Position.{Position}
 use Rattle.scan_cdp.specs.declared.Settings.{Settings}
@@ -200,7 +200,7 @@ loadAfter HandedOut load position = Load.None
 -- What is answered: refusal 2 with the signed distance and the position at this header (R2), a packet with its load's start (S5).
 abbrev pub answerIn : {P : Type 0} → Outcome → RdhCru → P → (start position : Position) → Answer (Found P)
 answerIn FeeIdsFull h payload start position = refuses 4 []
-answerIn BadOffset h payload start position = refuses 2 (subℕ (offset h) 64 ∷ pos (position .0) ∷ [])
+answerIn BadOffset h payload start position = refuses 2 (skipDistance (offset h) ∷ pos (position .0) ∷ [])
 answerIn MemorySize h payload start position = refuses 3 []
 answerIn NegativeSkip h payload start position = refuses 5 []
 answerIn Passed h payload start position = gives passed

@@ -6,34 +6,30 @@ use mathlib.Core.Path.{_≡_, subst}
 use native.Mathlib.Omega.{arith}
 use borrow.Author.Tests.{ltb-false, ltb-true}
 use lib.Dec.{ltb}
-use Rattle.basis.specs.PickLaws.{by-test, neither}
+use Rattle.basis.specs.PickLaws.{by-test}
 use Rattle.rdh.specs.declared.rdh_cru.RdhCru.{RdhCru}
 use Rattle.scan_cdp.specs.Steps.{outcomeIn}
 use Rattle.scan_cdp.specs.Outcomes.{badOffset, filtered, isMatch, memorySize, offset, outcomeOf, skipped}
+use Rattle.scan_cdp.specs.SkipDistanceLaws.{GoodOffset, good-offset}
 use Rattle.scan_cdp.specs.declared.Settings.{Settings}
 use Rattle.scan_cdp.specs.declared.State.{State}
 use Rattle.scan_cdp.specs.declared.Outcome.{Outcome}
 use Rattle.scan_cdp.specs.declared.Outcome.the-variants.{FeeIdsFull, BadOffset, MemorySize, NegativeSkip, Passed, HandedOut}
 
--- An offset that refusal 2 lets through.
-pub record GoodOffset (h : RdhCru) : Type 0 where
-  pub least : 64 ≤ offset h
-  pub most : offset h ≤ 10064
-
 -- A match that refusal 3 stops.
 pub record TooSmall (set : Settings) (h : RdhCru) : Type 0 where
-  pub good : GoodOffset h
+  pub good : GoodOffset (offset h)
   pub taken : isMatch set h ≡ true
   pub small : memorySize h < 64
 
 -- A header that the filter does not take.
 pub record NotTaken (set : Settings) (h : RdhCru) : Type 0 where
-  pub good : GoodOffset h
+  pub good : GoodOffset (offset h)
   pub other : isMatch set h ≡ false
 
 -- A match that is not refused.
 pub record Taken (set : Settings) (h : RdhCru) : Type 0 where
-  pub good : GoodOffset h
+  pub good : GoodOffset (offset h)
   pub taken : isMatch set h ≡ true
   pub large : 64 ≤ memorySize h
 
@@ -46,17 +42,12 @@ Known set h NegativeSkip = ⊥
 Known set h Passed = NotTaken set h
 Known set h HandedOut = Taken set h
 
-good-offset : (h : RdhCru) → badOffset (offset h) ≡ false → GoodOffset h
-good-offset h e =
-    let (least, most) = neither (ltb (offset h) 64) (ltb 10064 (offset h)) e in
-    record { least = ltb-false (offset h) 64 least; most = ltb-false 10064 (offset h) most }
-
-skipped-known : (set : Settings) (h : RdhCru) (t : Outcome) → GoodOffset h → Known set h t → Known set h (skipped (offset h) t)
+skipped-known : (set : Settings) (h : RdhCru) (t : Outcome) → GoodOffset (offset h) → Known set h t → Known set h (skipped (offset h) t)
 unfolding skipped
 skipped-known set h t good k =
     by-test (Known set h) (ltb (offset h) 64) NegativeSkip t (λ e. omega (arith, ltb-true (offset h) 64 e, good .least)) (λ e. k)
 
-filtered-known : (set : Settings) (h : RdhCru) → GoodOffset h → Known set h (filtered set h)
+filtered-known : (set : Settings) (h : RdhCru) → GoodOffset (offset h) → Known set h (filtered set h)
 unfolding filtered
 filtered-known set h good =
     by-test (Known set h) (isMatch set h) _ _
@@ -70,7 +61,7 @@ filtered-known set h good =
 pub outcome-known : (set : Settings) (first full : Bool) (h : RdhCru) → Known set h (outcomeOf set first full h)
 unfolding outcomeOf
 outcome-known set first full h =
-    let good : badOffset (offset h) ≡ false → Known set h (filtered set h) = λ e. filtered-known set h (good-offset h e) in
+    let good : badOffset (offset h) ≡ false → Known set h (filtered set h) = λ e. filtered-known set h (good-offset (offset h) e) in
     by-test (Known set h) first _ _
     (λ one. by-test (Known set h) full _ _ (λ e. tt) (λ e. by-test (Known set h) (badOffset (offset h)) _ _ (λ bad. bad) good))
     (λ later. by-test (Known set h) (badOffset (offset h)) _ _ (λ bad. bad) (λ fine.

@@ -5,14 +5,14 @@ use mathlib.Core.Bool.{Bool, true, false, not, _||_, _&&_}
 use mathlib.Core.List.{List, [], _∷_}
 use mathlib.Core.Path.{_≡_}
 use lib.Dec.{ltb}
-use lib.IntN.{ℤ, pos, subℕ}
+use lib.IntN.{ℤ, pos}
 use lib.ListN.{length}
 use Rattle.basis.specs.Refusals.{refuses}
 use Rattle.filter.specs.Filter.{enabled}
 use Rattle.rdh.specs.declared.rdh_cru.RdhCru.{RdhCru}
 use Rattle.serde_rdh.specs.Layout.{decoded}
 use Rattle.stats.specs.Lists.{full}
-use Rattle.scan_cdp.specs.Outcomes.{badMemorySize, badOffset, feeId, isMatch, memorySize, offset}
+use Rattle.scan_cdp.specs.Outcomes.{badMemorySize, badOffset, feeId, isMatch, memorySize, offset, skipDistance}
 use Rattle.scan_cdp.specs.Steps.{Entry, closed, initialOf, isFirst, noMarks, placesListed, raised, unusable, usedListed, withPlace}
 use Rattle.scan_cdp.specs.Windows.{examined, outside, shown}
 use Rattle.scan_cdp.specs.declared.Marks.{Marks}
@@ -137,7 +137,7 @@ module _ (set : Settings) (s : State) (feeIds w : List ℕ) (first : ℕ) (last 
   abbrev pub Row2 : Type 0
   Row2 =
       let counted = set .stats && isFirst (s .progress .load) in
-      Row 2 when2 (subℕ (offset header) 64 ∷ pos (s .progress .position .0) ∷ [])
+      Row 2 when2 (skipDistance (offset header) ∷ pos (s .progress .position .0) ∷ [])
       (behindHeader counted counted false s feeIds header) (headerMarks set counted false s header) reply
 
   -- R3: counted, and in filtered, too, if a filter is set.

@@ -17,13 +17,14 @@ use Rattle.stats.specs.Lists.{twice}
 use Rattle.stats.specs.ListsLaws.{length-places, once-kept, used-kept}
 use Rattle.scan_cdp.specs.Answers.{Found, Handed, handed, passed}
 use Rattle.scan_cdp.specs.Loads.{isPassed}
-use Rattle.scan_laws.specs.OutcomeLaws.{GoodOffset, Known, NotTaken, Taken, known-here}
+use Rattle.scan_laws.specs.OutcomeLaws.{Known, NotTaken, Taken, known-here}
 use Rattle.scan_laws.specs.RowLaws.{RefusedNumber, answer-as, answer-cases, both, place-moves}
 use Rattle.scan_laws.specs.Runs.{closes, isRefusal, isWant}
 use Rattle.scan_laws.specs.WindowLaws.{examined-header, examined-short, refused-6}
 use Rattle.scan_cdp.specs.Steps.{Entry, answerIn, ended, entryAt, entryOf, isFirst, limit, loadAfter, noMarks, placeAfter, placesListed, progressAfter}
 use Rattle.scan_cdp.specs.Steps.{payloadOf, startOf, step, outcomeIn, unchanged, unusable, usedListed}
 use Rattle.scan_cdp.specs.Outcomes.{feeId, offset, payloadSize}
+use Rattle.scan_cdp.specs.SkipDistanceLaws.{GoodOffset}
 use Rattle.scan_cdp.specs.Windows.{examined, located, outside, placed, shown, wanting}
 use Rattle.scan_cdp.specs.declared.Part.{Part}
 use Rattle.scan_cdp.specs.declared.Position.{Position}
@@ -268,7 +269,7 @@ entry-passed set s feeIds w first start a long e =
     let t = outcomeIn set p feeIds h in
     let known = known-here set s feeIds h in
     let is : t ≡ Passed = only-passed set t h _ _ _ known (ap isPassed (sym (answer-as _ t h _ _ _)) ∙ e) in
-    let good : GoodOffset h = subst (Known set h) is known .good in
+    let good : GoodOffset (offset h) = subst (Known set h) is known .good in
     let place : placeAfter (set .«skip_payload») t h (p .place .0) (length rest) (first + length w) ≡ p .place .0 + offset h =
     ap (λ (u : Outcome). placeAfter (set .«skip_payload») u h (p .place .0) (length rest) (first + length w)) is in
     let shows = is-shown s feeIds w first a long in
