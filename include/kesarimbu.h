@@ -64,13 +64,12 @@ enum {
     KESARIMBU_LEAST_ROOM = 1024 /* bytes of the shortest buffer that kesarimbu_list takes */
 };
 
-/* Why a call was refused. 0 is no refusal. */
+/* Why a call was refused. 0 is no refusal, and there is no 5. */
 enum kesarimbu_refusal {
     KESARIMBU_END = 1,              /* fewer than 64 bytes are left: the end of the recording */
     KESARIMBU_OFFSET = 2,           /* the offset to the next packet is below 64 or above 10,064 */
     KESARIMBU_MEMORY_SIZE = 3,      /* the header would be handed out, and its memory size is below 64 */
     KESARIMBU_FEE_IDS_FULL = 4,     /* the FEE id is new, and the list has no place for it */
-    KESARIMBU_NEGATIVE_SKIP = 5,    /* the distance to skip is negative: it has never been seen */
     KESARIMBU_UNUSABLE = 6,         /* the state, the lists or the window cannot be worked with: nothing changed */
     KESARIMBU_BUFFER_TOO_SHORT = 7, /* the text needs more bytes than were lent: nothing was written */
     KESARIMBU_NOT_A_STAVE_NAME = 8, /* as it says */
@@ -314,7 +313,7 @@ struct kesarimbu_reply kesarimbu_load(struct kesarimbu_settings settings, struct
                                       uint8_t *header);
 
 /* Lists packets: loads one after the other, and writes each packet's row, and its verdict if it is not sound, a line each, at the start of
-   `out`, until a load finds no packet, or `out` might not hold the next lines. A refusal 1 to 6 adds the last lines, with the counts. Marks
+   `out`, until a load finds no packet, or `out` might not hold the next lines. A refusal 1 to 4 or 6 adds the last lines, with the counts. Marks
    are not told. Call it again with what came back, and with a buffer to fill anew, as long as the kind is KESARIMBU_FULL or
    KESARIMBU_WANT. */
 struct kesarimbu_listed kesarimbu_list(struct kesarimbu_settings settings, struct kesarimbu_state state,

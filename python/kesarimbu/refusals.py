@@ -1,16 +1,16 @@
-"""Refusals: numbered, with the values that some of them bring."""
+"""Refusals: numbered 1 to 4 and 6 to 9, with the values that some of them bring."""
 from __future__ import annotations
 
 from .structs import Answer
 
-END, OFFSET, MEMORY_SIZE, FEE_IDS_FULL, NEGATIVE_SKIP, UNUSABLE, BUFFER_TOO_SHORT, NOT_A_STAVE_NAME, FEWER_THAN_64 = range(1, 10)
+END, OFFSET, MEMORY_SIZE, FEE_IDS_FULL = 1, 2, 3, 4
+UNUSABLE, BUFFER_TOO_SHORT, NOT_A_STAVE_NAME, FEWER_THAN_64 = 6, 7, 8, 9
 
 WORDS = {
     END: "fewer than 64 bytes are left: the end of the recording",
     OFFSET: "the offset to the next packet is below 64 or above 10,064",
     MEMORY_SIZE: "the memory size of a header that would be handed out is below 64",
     FEE_IDS_FULL: "the FEE id is new, and the list has no place for it",
-    NEGATIVE_SKIP: "the distance to skip is negative",
     UNUSABLE: "the state, the lists or the window cannot be worked with",
     BUFFER_TOO_SHORT: "the text needs more bytes than were lent",
     NOT_A_STAVE_NAME: "not a stave name",

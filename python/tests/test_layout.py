@@ -1,10 +1,10 @@
-"""The structs that cross are the same in Rattle, C and Python: names, sizes, and where each field stands."""
+"""What crosses is the same in Rattle, C and Python: the structs, with names, sizes and where each field stands, and the refusals' numbers."""
 import ctypes
 import re
 import subprocess
 import unittest
 
-from kesarimbu import structs
+from kesarimbu import refusals, structs
 from .differential import ROOT
 
 PROGRAM = ROOT / "target/doors/test"
@@ -84,11 +84,31 @@ def c_lines():
     return subprocess.run([PROGRAM, "layout"], stdout=subprocess.PIPE, check=True).stdout.decode().splitlines()
 
 
+def header_file():
+    """The header for C without its comments."""
+    return re.sub(r"/\*.*?\*/", "", (ROOT / "include/kesarimbu.h").read_text(), flags=re.DOTALL)
+
+
+class Refusals(unittest.TestCase):
+    def test_c_and_python_have_the_same(self):
+        """1 to 4 and 6 to 9, each by its name, and no other."""
+        body, = re.findall(r"^enum kesarimbu_refusal \{(.*?)^\};", header_file(), re.DOTALL | re.MULTILINE)
+        in_c = {name: int(number) for name, number in re.findall(r"KESARIMBU_(\w+) = (\d+)", body)}
+        in_python = {name: number for name, number in vars(refusals).items() if isinstance(number, int)}
+        self.assertEqual(in_python, in_c)
+        self.assertEqual(sorted(in_c.values()), [1, 2, 3, 4, 6, 7, 8, 9])
+        self.assertEqual(sorted(refusals.WORDS), sorted(in_c.values()))
+
+    def test_those_of_a_scan_are_those_of_rattle(self):
+        source = (ROOT / "crates/scan_cdp/src/lib.rt").read_text()
+        numbers = [int(number) for number in re.findall(r"Refusal::\w+(?:\(.*?\))? => (\d+),", source)]
+        self.assertEqual(numbers, [1, 2, 3, 4, 6])
+
+
 class Layout(unittest.TestCase):
     def test_every_struct_of_the_header_file(self):
         """Each is found in Rattle's sources, with as many fields, and no other."""
-        header = re.sub(r"/\*.*?\*/", "", (ROOT / "include/kesarimbu.h").read_text(), flags=re.DOTALL)
-        in_c = {name: body.count(";") for name, body in re.findall(r"^struct (\w+) \{(.*?)^\};", header, re.DOTALL | re.MULTILINE)}
+        in_c = {name: body.count(";") for name, body in re.findall(r"^struct (\w+) \{(.*?)^\};", header_file(), re.DOTALL | re.MULTILINE)}
         in_rattle = {c_name(name): len(fields) for name, fields in RattleStructs().structs.items()}
         self.assertEqual(in_rattle, in_c)
 

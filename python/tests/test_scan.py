@@ -110,6 +110,20 @@ class Replies(unittest.TestCase):
                 self.both(Settings(), later, one(offset=offset), 0, True, Refused(2, (offset - 64, 9)), Marks(),
                           replace(BEGIN, place=64, position=9))
 
+    def test_every_offset(self):
+        """Refused with 2, or 0 to 10,000 are skipped behind the header: with the header passed, and with its payload skipped."""
+        for settings in (Settings(link=3, stats=False), Settings(skip_payload=True, stats=False)):
+            window = bytearray(one())
+            for offset in range(1 << 16):
+                window[8:10] = offset.to_bytes(2, "little")
+                answer, _, kept = kesarimbu.examine(settings, BEGIN, window, 0, True)
+                skipped = offset - 64
+                if 0 <= skipped <= 10_000:
+                    self.assertNotIsInstance(answer, Refused)
+                    self.assertEqual((kept.place, kept.position), (64 + skipped, 64 + skipped))
+                else:
+                    self.assertEqual((answer, kept.place, kept.position), (Refused(2, (skipped, 0)), 64, 0))
+
     def test_refusal_3(self):
         for settings in (Settings(), Settings(skip_payload=True)):
             self.both(settings, BEGIN, one(memory=63), 0, True, Refused(3), INITIAL, replace(COUNTED, place=64))

@@ -1,9 +1,9 @@
 -- A list of calls on windows of one recording: what they reply, and what the chain says that they reply (C5, C6).
 use Prim.Native.Nat.{ℕ, _+_, _≤_}
-use mathlib.Core.Bool.{Bool, true, not, _||_, _&&_}
+use mathlib.Core.Bool.{Bool, true, false, _||_, _&&_}
 use mathlib.Core.Path.{_≡_}
 use mathlib.Core.List.{List, [], _∷_}
-use lib.Dec.{ltb}
+use lib.Dec.{eqb, ltb}
 use lib.ListN.{length, take, drop}
 use Rattle.basis.specs.Pick.{pick}
 use Rattle.basis.specs.Refusals.{Answer, gives, refuses}
@@ -15,8 +15,8 @@ use Rattle.scan_cdp.specs.Windows.{bytesAt, examined, outside, shown}
 use Rattle.scan_cdp.specs.declared.LoadMarks.{LoadMarks}
 use Rattle.scan_cdp.specs.declared.Part.{Part}
 use Rattle.scan_cdp.specs.declared.Settings.{Settings}
-use Rattle.scan_laws.specs.Runs.{isRefusal}
-use Rattle.chain.specs.Chain.{Kept, isRefused, left}
+use Rattle.scan_laws.specs.Runs.{oneToFour}
+use Rattle.chain.specs.Chain.{Kept, left}
 use Rattle.chain.specs.Following as Following
 use Rattle.chain.specs.Following.{Each, cutInto, keptAfter, leftOver, oneEnds, repliesOf}
 
@@ -76,9 +76,10 @@ abbrev pub keptBy : Reply → Kept
 keptBy (examination e) = left e
 keptBy (load r) = record { state = r .state; feeIds = r .feeIds }
 
--- Whether an answer ends the chain (C3): any refusal, but 6 only where state and list meet it by themselves.
+-- Whether an answer ends the chain (C3): refusals 1 to 4, and 6 where state and list meet it by themselves.
 abbrev pub endsBy : {P : Type 0} → Answer (Found P) → (six : Bool) → Bool
-endsBy a six = isRefused a && (not (isRefusal 6 a) || six)
+endsBy (gives found) six = false
+endsBy (refuses number values) six = oneToFour number || (eqb number 6 && six)
 
 abbrev pub endsChain : Reply → Bool
 endsChain r = endsBy (replyAnswer r) (unusable (keptBy r .state) (keptBy r .feeIds))

@@ -1,20 +1,24 @@
 -- Laws of a single call: what holds it back, and what ends the chain.
 use Prim.Native.Nat.{ℕ}
-use mathlib.Core.Bool.{Bool, false, not, _||_}
+use mathlib.Core.Bool.{Bool, true, false, not, _||_, _&&_, false≢true, true≢false}
 use mathlib.Core.Path.{_≡_, refl, ap}
 use mathlib.Core.List.{List, []}
-use native.Mathlib.Omega.{arith}
-use borrow.Author.Tests.{ne-eqb}
-use lib.Dec.{ltb}
+use lib.Dec.{eqb, ltb}
 use lib.ListN.{length, drop}
 use Rattle.basis.specs.PickLaws.{by-test}
 use Rattle.basis.specs.Refusals.{Answer, gives, refuses}
-use Rattle.scan_cdp.specs.Answers.{Found, handed, passed, wants}
+use Rattle.scan_cdp.specs.Answers.{Found, handed, loadAnswer, numberOf, passed, wants}
 use Rattle.scan_cdp.specs.Loads.{isPassed}
 use Rattle.scan_cdp.specs.Steps.{Entry, ended, unchanged, unusable, entryAt}
 use Rattle.scan_cdp.specs.Windows.{outside, shown}
+use Rattle.scan_cdp.specs.declared.LoadCdp.the-variants.{Refused}
 use Rattle.scan_cdp.specs.declared.Part.{Part}
+use Rattle.scan_cdp.specs.declared.Refusal.{Refusal}
+use Rattle.scan_cdp.specs.declared.Refusal.the-variants.{End, FeeIdsFull, MemorySize, OffsetToNext, Unusable}
 use Rattle.scan_cdp.specs.declared.Settings.{Settings}
+use Rattle.scan_laws.specs.RefusalRowsClaims.{inTable}
+use Rattle.scan_laws.specs.RowLaws.{header-number}
+use Rattle.scan_laws.specs.Runs.{isRefusal, oneToFour}
 use Rattle.scan_laws.specs.StepLaws.{entry-cases, step-cases}
 use Rattle.chain.specs.Calls.{Hold, Window, endsBy, endsChain, examination, free, held, heldBack, needed, readFrom}
 use Rattle.chain.specs.Chain.{Kept, isRefused, next, placeOf}
@@ -62,7 +66,7 @@ entry-ends recording set k =
     entry-cases set (k .state) (k .feeIds) rest (length recording)
     (λ a. endsChain (examination (record { answer = a; marks = e .marks; state = e .state; feeIds = e .feeIds })) ≡ isRefused a)
     (λ number values r.
-    ap (λ (b : Bool). not b || unusable (e .state) (e .feeIds)) (ne-eqb number 6 (λ is. omega (arith, r .most, is))))
+    ap (λ (b : Bool). b || (eqb number 6 && unusable (e .state) (e .feeIds))) (header-number number r))
     (λ other. refl) (λ p same taken. refl))
 
 -- Reading the payload's bytes does not change whether an answer ends the chain.
@@ -71,3 +75,28 @@ ends-read w (gives passed) six = refl
 ends-read w (gives (handed p)) six = refl
 ends-read w (gives (wants place size)) six = refl
 ends-read w (refuses number values) six = refl
+
+-- What is not refused does not end it.
+pub given-goes-on : (a : Answer (Found Part)) (six : Bool) → isRefused a ≡ false → endsBy a six ≡ false
+given-goes-on (gives found) six given = refl
+given-goes-on (refuses number values) six given = absurd (true≢false given)
+
+-- What is refused, with a number of the table, ends it where a 6 is met by state and list.
+pub refused-ends : (a : Answer (Found Part)) (six : Bool) → inTable a ≡ true → (isRefusal 6 a ≡ true → six ≡ true) → isRefused a ≡ true
+    → endsBy a six ≡ true
+refused-ends (gives found) six known due refused = absurd (false≢true refused)
+refused-ends (refuses number values) six known due refused = by-number (oneToFour number) (eqb number 6) known due
+  where
+    by-number : (low is-6 : Bool) → (low || is-6) ≡ true → (is-6 ≡ true → six ≡ true) → (low || (is-6 && six)) ≡ true
+    by-number true is-6 known due = refl
+    by-number false true known due = due refl
+    by-number false false known due = known
+
+-- Of the refusals only 6 can leave the chain open.
+pub ends-but-6 : (why : Refusal) (six : Bool)
+    → (not (eqb (numberOf why) (numberOf Unusable)) || six) ≡ endsBy (loadAnswer (Refused why)) six
+ends-but-6 End six = refl
+ends-but-6 (OffsetToNext distance position) six = refl
+ends-but-6 MemorySize six = refl
+ends-but-6 FeeIdsFull six = refl
+ends-but-6 Unusable six = refl

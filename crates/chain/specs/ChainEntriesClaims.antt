@@ -1,16 +1,17 @@
 -- The statements on the chain itself: it goes on entry by entry (C1), what an entry can be (C2), that its last entry alone is refused (C3), and
 -- that it ends within the number of entries that it is allowed (S11).
 use Prim.Native.Nat.{ℕ, _+_, _/_, _≤_}
-use mathlib.Core.Bool.{Bool, true, false, not, _&&_}
+use mathlib.Core.Bool.{Bool, true, false, not}
 use mathlib.Core.Path.{_≡_}
 use mathlib.Core.List.{List, [], _∷_, _++_}
-use lib.Dec.{eqb, leb}
+use lib.Dec.{eqb}
 use lib.ListN.{length}
 use Rattle.basis.specs.Pick.{pick}
 use Rattle.basis.specs.Refusals.{Answer, gives, refuses}
 use Rattle.scan_cdp.specs.Answers.{Found, handed, passed, wants}
 use Rattle.scan_cdp.specs.Steps.{Entry, unusable}
 use Rattle.scan_cdp.specs.declared.Settings.{Settings}
+use Rattle.scan_laws.specs.Runs.{oneToFour}
 use Rattle.chain.specs.Chain.{Kept, behind, chain, chainOf, isRefused, next}
 
 -- The chain is the next entry and what is behind it: the chain from what that entry left, or nothing where it is refused.
@@ -35,7 +36,7 @@ abbrev pub isEntry : (six : Bool) → Answer (Found (List ℕ)) → Bool
 isEntry six (gives passed) = not six
 isEntry six (gives (handed p)) = not six
 isEntry six (gives (wants place size)) = false
-isEntry six (refuses number values) = pick six (eqb number 6) (leb 1 number && leb number 4)
+isEntry six (refuses number values) = pick six (eqb number 6) (oneToFour number)
 
 abbrev pub OnlyEntries : Type 0
 OnlyEntries =

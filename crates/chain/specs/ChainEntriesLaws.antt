@@ -1,15 +1,15 @@
 -- Proofs of the statements on the chain itself, all from the law that it is one entry and what is behind it.
 use Prim.Native.Nat.{ℕ, zero, suc, _+_, _/_, _≤_}
-use mathlib.Core.Bool.{Bool, true, false, not, _&&_}
+use mathlib.Core.Bool.{Bool, true, false, not}
 use mathlib.Core.Path.{_≡_, refl, ap, subst, sym, _∙_}
 use mathlib.Core.List.{List, [], _∷_, _++_}
 use native.Mathlib.Omega.{arith}
-use borrow.Author.Tests.{le-leb}
 use lib.ListN.{length, drop}
 use Rattle.basis.specs.Pick.{pick}
 use Rattle.basis.specs.PickLaws.{by-test, off, on}
 use Rattle.scan_cdp.specs.Steps.{Entry, ended, unusable}
 use Rattle.scan_cdp.specs.declared.Settings.{Settings}
+use Rattle.scan_laws.specs.RowLaws.{header-number}
 use Rattle.scan_laws.specs.StepLaws.{entry-cases, step-cases}
 use Rattle.chain.specs.Chain.{Kept, chain, chainOf, isRefused, left, next, placeOf}
 use Rattle.chain.specs.ChainEntriesClaims.{Allowance, EntryByEntry, OnlyEntries, RefusedLast, isEntry, isNone}
@@ -29,8 +29,7 @@ only-entries recording set k =
     (λ usable short. off _ _ usable)
     (λ usable whole.
     entry-cases set (k .state) (k .feeIds) rest (length recording) (λ a. isEntry (unusable (k .state) (k .feeIds)) a ≡ true)
-    (λ number values r.
-    off _ _ usable ∙ (λ i. le-leb 1 number (omega (arith, r .least)) i && le-leb number 4 (r .most) i))
+    (λ number values r. off _ _ usable ∙ header-number number r)
     (λ other. ap not usable) (λ p same taken. ap not usable))
 
 -- ---- a refused entry is the last

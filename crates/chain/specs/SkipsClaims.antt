@@ -12,14 +12,12 @@ use Rattle.chain.specs.Chain.{Kept, isRefused, left, placeOf}
 use Rattle.chain.specs.Following.{Each}
 use Rattle.chain.specs.Walk.{Met, walk}
 
-abbrev pub positionOf : Kept → ℕ
-positionOf k = k .state .progress .position .0
-
 -- The header that is met has a distance in 0 to 10,000. The position grows by 64 and that distance, and so does the byte place, unless the
 -- payload is read (S3, S5).
 pub record SkipsAhead (set : Settings) (m : Met) : Type 0 where
   pub reach : inReach (skipDistance (offset (m .header))) ≡ true
-  pub position : pos (positionOf (left (m .entry))) ≡ pos (positionOf (m .before) + 64) +ℤ skipDistance (offset (m .header))
+  pub position : pos (m .entry .state .progress .position .0)
+      ≡ pos (m .before .state .progress .position .0 + 64) +ℤ skipDistance (offset (m .header))
   pub place : (isPassed (m .entry .answer) || set .«skip_payload») ≡ true
       → pos (placeOf (left (m .entry))) ≡ pos (placeOf (m .before) + 64) +ℤ skipDistance (offset (m .header))
 

@@ -21,7 +21,7 @@ use Rattle.scan_laws.specs.OutcomeLaws.{known-here}
 use Rattle.scan_laws.specs.RowLaws.{answer-cases}
 use Rattle.scan_laws.specs.StepLaws.{step-cases}
 use Rattle.chain.specs.Chain.{Kept, isRefused, placeOf}
-use Rattle.chain.specs.SkipsClaims.{EachSkipsAhead, SkipsAhead, positionOf}
+use Rattle.chain.specs.SkipsClaims.{EachSkipsAhead, SkipsAhead}
 use Rattle.chain.specs.Walk.{headerAt, met}
 use Rattle.chain.specs.WalkLaws.{each-met}
 
@@ -35,13 +35,16 @@ module _ (recording : List ℕ) (set : Settings) (k : Kept) where
   abbrev n : ℕ
   n = offset h
 
+  abbrev reported : ℕ
+  reported = k .state .progress .position .0
+
   abbrev skip : Bool
   skip = set .«skip_payload»
 
   -- what an outcome and its answer lead to
   record Leads (t : Outcome) (answer : Answer (Found (List ℕ))) : Type 0 where
     reach : inReach (skipDistance n) ≡ true
-    position : pos (positionAfter t h (positionOf k)) ≡ pos (positionOf k + 64) +ℤ skipDistance n
+    position : pos (positionAfter t h reported) ≡ pos (reported + 64) +ℤ skipDistance n
     place : (isPassed answer || skip) ≡ true
         → pos (placeAfter skip t h (placeOf k) (length rest) (length recording)) ≡ pos (placeOf k + 64) +ℤ skipDistance n
 
@@ -59,13 +62,13 @@ module _ (recording : List ℕ) (set : Settings) (k : Kept) where
       (λ other goes.
       record {
         reach = other .good .reach;
-        position = skips-to (positionOf k) n (other .good .least);
+        position = skips-to reported n (other .good .least);
         place = λ due. skips-to (placeOf k) n (other .good .least);
       })
       (λ taken goes.
       record {
         reach = taken .good .reach;
-        position = skips-to (positionOf k) n (taken .good .least);
+        position = skips-to reported n (taken .good .least);
         place = λ skips. ap pos (on _ _ skips) ∙ skips-to (placeOf k) n (taken .good .least);
       })
 

@@ -16,7 +16,7 @@ use Rattle.serde_rdh.specs.Layout.{decoded, header, span}
 use Rattle.scan_cdp.specs.Answers.{Found, passed, wants}
 use Rattle.scan_cdp.specs.Loads.{loaded, loadedFrom, together}
 use Rattle.scan_cdp.specs.Steps.{Entry, cut, ended, entryOf, initialOf, marksOf, newState, payloadOf, placeAfter, placesListed, progressAfter, raised, step, tallied, outcomeIn, unusable, usedListed}
-use Rattle.scan_cdp.specs.Outcomes.{filtered, offset, skipDistance, skipped, outcomeOf}
+use Rattle.scan_cdp.specs.Outcomes.{filtered, offset, skipDistance, outcomeOf}
 use Rattle.scan_cdp.specs.Windows.{bytesAt, examined, outside, partAt}
 use Rattle.scan_cdp.specs.declared.Settings.{Settings}
 use Rattle.stats.specs.Counts.{added}
@@ -61,12 +61,12 @@ entryAnswers (e ∷ es) = e .answer ∷ entryAnswers es
 -- A want, the two packets, and the end.
 pub calls-answer : answers (replies plain start calls)
     ≡ gives (wants (record { 0 = 0 }) 64) ∷ givenAt 0 0x502A 64 ∷ givenAt 64 0x3006 64 ∷ refuses 1 [] ∷ []
-unfolding recording calls sample bytesOf numberAt little decoded header span repliesOf replyTo examined outside unusable twice member step entryOf marksOf tallied raised added initialOf outcomeIn outcomeOf filtered skipped full payloadOf cut placesListed placesAfter usedListed usedAfter progressAfter placeAfter ended loaded loadedFrom together bytesAt partAt
+unfolding recording calls sample bytesOf numberAt little decoded header span repliesOf replyTo examined outside unusable twice member step entryOf marksOf tallied raised added initialOf outcomeIn outcomeOf filtered full payloadOf cut placesListed placesAfter usedListed usedAfter progressAfter placeAfter ended loaded loadedFrom together bytesAt partAt
 calls-answer = refl
 
 -- The chain itself: the two packets, and the end.
 pub chain-answers : entryAnswers (chain recording plain start) ≡ givenAt 0 0x502A 64 ∷ givenAt 64 0x3006 64 ∷ refuses 1 [] ∷ []
-unfolding recording sample bytesOf numberAt little decoded header span chain chainOf unusable twice member step entryOf marksOf tallied raised added initialOf outcomeIn outcomeOf filtered skipped full payloadOf cut placesListed placesAfter usedListed usedAfter progressAfter placeAfter ended
+unfolding recording sample bytesOf numberAt little decoded header span chain chainOf unusable twice member step entryOf marksOf tallied raised added initialOf outcomeIn outcomeOf filtered full payloadOf cut placesListed placesAfter usedListed usedAfter progressAfter placeAfter ended
 chain-answers = refl
 
 -- The windows are windows of the recording, so that the theorem speaks of these calls.
@@ -109,10 +109,10 @@ skips bytes set =
 
 -- The least, 0, is skipped behind an offset of 64 ..
 pub least-skipped : (skips (alone 64) passing ≡ (gives passed, pos 0) ∷ []) × (skips (alone 64) handing ≡ (givenAt 0 0x502A 64, pos 0) ∷ [])
-unfolding sample bytesOf numberAt little decoded header span walk walkAlong chain chainOf unusable twice member step entryOf outcomeIn outcomeOf filtered skipped full payloadOf cut placesListed usedListed progressAfter placeAfter marksOf tallied raised initialOf ended flatMap
+unfolding sample bytesOf numberAt little decoded header span walk walkAlong chain chainOf unusable twice member step entryOf outcomeIn outcomeOf filtered full payloadOf cut placesListed usedListed progressAfter placeAfter marksOf tallied raised initialOf ended flatMap
 least-skipped = (refl, refl)
 
 -- .. and the most, 10,000, behind one of 10,064.
 pub most-skipped : (skips (alone 10064) passing ≡ (gives passed, pos 10000) ∷ []) × (skips (alone 10064) handing ≡ (givenAt 0 0x502A 10064, pos 10000) ∷ [])
-unfolding sample bytesOf numberAt little decoded header span walk walkAlong chain chainOf unusable twice member step entryOf outcomeIn outcomeOf filtered skipped full payloadOf cut placesListed usedListed progressAfter placeAfter marksOf tallied raised initialOf ended flatMap
+unfolding sample bytesOf numberAt little decoded header span walk walkAlong chain chainOf unusable twice member step entryOf outcomeIn outcomeOf filtered full payloadOf cut placesListed usedListed progressAfter placeAfter marksOf tallied raised initialOf ended flatMap
 most-skipped = (refl, refl)

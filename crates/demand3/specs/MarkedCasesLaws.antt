@@ -6,7 +6,7 @@ use Rattle.its_names.specs.StaveNameLaws.{L9-70-given}
 use Rattle.serde_rdh.specs.Layout.{decoded, header, span}
 use Rattle.sanity.specs.Tests.{allTests, anyFails, cruTests, feeIdTests, rdh0Tests, rdh1Tests, rdh2Tests, rdh3Tests, sound}
 use Rattle.scan_cdp.specs.Steps.{cut, entryOf, payloadOf, step, outcomeIn, unusable}
-use Rattle.scan_cdp.specs.Outcomes.{filtered, skipped, outcomeOf}
+use Rattle.scan_cdp.specs.Outcomes.{filtered, outcomeOf}
 use Rattle.stats.specs.Lists.{full, member, twice}
 use Rattle.validators.specs.Verdict.{soundTo}
 use Rattle.demand3.specs.MarkedCases.{marked, sample}
@@ -18,7 +18,7 @@ abbrev pub _then_ : {A B : Type 0} → A → B → A × B
 a then b = (a, b)
 
 pub marked-agree : AllAgree marked
-unfolding marked sample bytesOf numberAt little decoded header span step unusable entryOf outcomeIn outcomeOf filtered skipped full member twice payloadOf cut soundTo sound allTests feeIdTests rdh0Tests rdh1Tests rdh2Tests rdh3Tests cruTests anyFails
+unfolding marked sample bytesOf numberAt little decoded header span step unusable entryOf outcomeIn outcomeOf filtered full member twice payloadOf cut soundTo sound allTests feeIdTests rdh0Tests rdh1Tests rdh2Tests rdh3Tests cruTests anyFails
 marked-agree =
     refl then refl then refl then refl
     then refl then refl then refl then refl then refl

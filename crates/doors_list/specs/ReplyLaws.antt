@@ -1,6 +1,6 @@
 -- The reply of a listing says why it stopped.
 use Prim.Native.Nat.{ℕ, _≤_}
-use mathlib.Core.Bool.{Bool, false, false≢true}
+use mathlib.Core.Bool.{false, false≢true}
 use mathlib.Core.List.{[]}
 use mathlib.Core.Path.{_≡_, refl, sym}
 use native.Mathlib.Omega.{arith}
@@ -9,7 +9,7 @@ use Rattle.basis.specs.Pick.{pick}
 use Rattle.basis.specs.Refusals.{gives, refuses}
 use Rattle.scan_cdp.specs.Answers.{handed, loadAnswer, passed, wants}
 use Rattle.scan_cdp.specs.declared.LoadCdp.the-variants as Loads
-use Rattle.scan_cdp.specs.declared.Refusal.the-variants.{End, FeeIdsFull, MemorySize, NegativeSkip, OffsetToNext, Unusable}
+use Rattle.scan_cdp.specs.declared.Refusal.the-variants.{End, FeeIdsFull, MemorySize, OffsetToNext, Unusable}
 use Rattle.listing_lines.specs.Lines.{room}
 use Rattle.listing_batch.specs.Batches.{Stopped, answered, full, isPacket, stopOf, tooShort}
 use Rattle.listing_batch.specs.JoinLaws.{Known}
@@ -42,7 +42,6 @@ stop-again (Why.Answered (Loads.Refused End)) length none needed = refl
 stop-again (Why.Answered (Loads.Refused (OffsetToNext distance position))) length none needed = refl
 stop-again (Why.Answered (Loads.Refused MemorySize)) length none needed = refl
 stop-again (Why.Answered (Loads.Refused FeeIdsFull)) length none needed = refl
-stop-again (Why.Answered (Loads.Refused NegativeSkip)) length none needed = refl
 stop-again (Why.Answered (Loads.Refused Unusable)) length none needed = refl
 
 -- A listing stops with a want, with a refusal, or for room.

@@ -24,7 +24,7 @@ use Rattle.scan_cdp.specs.declared.LoadMarks.{LoadMarks}
 use Rattle.scan_cdp.specs.declared.Marks.{Marks}
 use Rattle.scan_cdp.specs.declared.Part.{Part}
 use Rattle.scan_cdp.specs.declared.Refusal.{Refusal}
-use Rattle.scan_cdp.specs.declared.Refusal.the-variants.{End, FeeIdsFull, MemorySize, NegativeSkip, OffsetToNext, Unusable}
+use Rattle.scan_cdp.specs.declared.Refusal.the-variants.{End, FeeIdsFull, MemorySize, OffsetToNext, Unusable}
 use Rattle.doors_scan_reply.specs.Replies.{formatOr0, headerLeft, isMarked, kindPacket, kindPassed, kindWant, plainAnswer, plainMarks}
 use Rattle.doors_scan_reply.specs.Replies.{systemOr0, triggerOr0}
 use Rattle.doors_scan_reply.specs.declared.PlainAnswer.{PlainAnswer}
@@ -66,7 +66,6 @@ refusal-again End header = refl
 refusal-again (OffsetToNext distance position) header = refl
 refusal-again MemorySize header = refl
 refusal-again FeeIdsFull header = refl
-refusal-again NegativeSkip header = refl
 refusal-again Unusable header = refl
 
 -- Whatever a call answers can be read back.

@@ -1,6 +1,6 @@
 -- Why loads put the listing: a load takes the chain's next entries up to the first that is not passed, and that one alone has lines.
 use Prim.Native.Nat.{ℕ, _+_, _/_}
-use mathlib.Core.Bool.{Bool, true, false, not, _||_, _&&_, false≢true, true≢false}
+use mathlib.Core.Bool.{Bool, true, false, _||_, false≢true, true≢false}
 use mathlib.Core.Path.{_≡_, refl, ap, sym, subst, _∙_}
 use mathlib.Core.List.{List, [], _∷_, _++_, append-assoc, append-nil}
 use lib.ListN.{length}
@@ -17,10 +17,10 @@ use Rattle.scan_cdp.specs.declared.LoadMarks.{LoadMarks}
 use Rattle.scan_cdp.specs.declared.Part.{Part}
 use Rattle.scan_cdp.specs.declared.Settings.{Settings}
 use Rattle.scan_laws.specs.FittingLaws.{loaded-six}
+use Rattle.scan_laws.specs.RefusalRowsLaws.{only-rows}
 use Rattle.scan_laws.specs.RunLaws.{enough}
-use Rattle.scan_laws.specs.Runs.{isRefusal}
-use Rattle.chain.specs.Calls.{Hold, Reply, Served, Window, WindowOf, endsChain, free, held, heldBack, heldLoad, keptBy, load, loadAlong, loadRead, loadedBy, readFrom, replyAnswer}
-use Rattle.chain.specs.CallsLaws.{ends-read, held-cases}
+use Rattle.chain.specs.Calls.{Hold, Reply, Served, Window, WindowOf, endsBy, endsChain, free, held, heldBack, heldLoad, keptBy, load, loadAlong, loadRead, loadedBy, readFrom, replyAnswer}
+use Rattle.chain.specs.CallsLaws.{ends-read, given-goes-on, held-cases, refused-ends}
 use Rattle.chain.specs.Chain.{Kept, chain, isRefused, left, placeOf}
 use Rattle.chain.specs.LoadLaws.{load-follows}
 use Rattle.listing_load.specs.LoadLines.{answerLines, linesOf, validatorOf}
@@ -95,10 +95,6 @@ read-lines v w (gives (handed p)) counts = (refl, refl, refl)
 read-lines v w (gives (wants place size)) counts = (refl, refl, refl)
 read-lines v w (refuses number values) counts = (refl, refl, refl)
 
-owed : (refused six by-state : Bool) → refused ≡ true → (six ≡ true → by-state ≡ true) → refused && (not six || by-state) ≡ true
-owed refused true by-state is due = ap (λ (b : Bool). b && by-state) is ∙ due refl
-owed refused false by-state is due = ap (λ (b : Bool). b && true) is
-
 module _ (recording : List ℕ) (set : Settings) (v : RdhCruSanityValidator) (k : Kept) (w : Window) (of : WindowOf recording w) where
   abbrev l : Loaded Part
   l = loadOn set k w
@@ -114,16 +110,20 @@ module _ (recording : List ℕ) (set : Settings) (v : RdhCruSanityValidator) (k 
   unfolding loaded
   served = load-follows recording set w of (length (w .bytes) / 64 + 1) noLoadMarks k (enough (k .state) (w .bytes) (w .first))
 
+  -- whether the reply ends the chain is told by the load's own answer
+  as-read : endsBy (l .answer) (unusable (l .state) (l .feeIds)) ≡ endsChain r
+  as-read = ends-read (w .bytes) (l .answer) (unusable (l .state) (l .feeIds))
+
   -- a refusal ends the chain: a 6 is due by state and list, since the window fits
   own : outside (placeOf k) (w .first) (length (w .bytes)) ≡ false → isRefused (l .answer) ≡ true → endsChain r ≡ true
   own fits refused =
-      sym (ends-read (w .bytes) (l .answer) (unusable (l .state) (l .feeIds)))
-      ∙ owed _ _ _ refused (loaded-six set (w .bytes) (w .first) (w .last) (k .state) (k .feeIds) fits)
+      let known = only-rows set (k .state) (k .feeIds) (w .bytes) (w .first) (w .last) .1 in
+      let due = loaded-six set (w .bytes) (w .first) (w .last) (k .state) (k .feeIds) fits in
+      sym as-read ∙ refused-ends (l .answer) _ known due refused
 
   -- an answer that is not refused does not end the chain
   goes-on : isRefused (l .answer) ≡ false → endsChain r ≡ false
-  goes-on answers = ap (λ (b : Bool). b && (not (isRefusal 6 (replyAnswer r)) || unusable (l .state) (l .feeIds)))
-      (read-lines v (w .bytes) (l .answer) (l .state .progress .counts) .2 ∙ answers)
+  goes-on answers = sym as-read ∙ given-goes-on (l .answer) _ answers
 
   rest-lines : (isRefused (l .answer) ≡ true → endsChain r ≡ true)
       → pick (isRefused (l .answer)) [] (entriesText after (chain recording set (keptAfter l)))

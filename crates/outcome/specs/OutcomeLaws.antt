@@ -1,10 +1,12 @@
 -- Laws of the outcome.
 use mathlib.Core.Bool.{Bool, true, false, _&&_}
-use mathlib.Core.Path.{_≡_, refl, _∙_}
+use mathlib.Core.Path.{_≡_, refl, ap, _∙_}
 use Rattle.basis.specs.Pick.{pick}
 use Rattle.basis.specs.PickLaws.{on, off}
+use Rattle.filter.specs.Filter.{matches, targetOf}
+use Rattle.filter.specs.declared.FilterTarget.{FilterTarget}
 use Rattle.rdh.specs.declared.rdh_cru.RdhCru.{RdhCru}
-use Rattle.scan_cdp.specs.Outcomes.{badMemorySize, badOffset, filtered, isMatch, memorySize, offset, skipped, outcomeOf}
+use Rattle.scan_cdp.specs.Outcomes.{badMemorySize, badOffset, feeId, filtered, isMatch, memorySize, offset, outcomeOf}
 use Rattle.scan_cdp.specs.declared.Settings.{Settings}
 use Rattle.scan_cdp.specs.declared.Outcome.the-variants.{FeeIdsFull, BadOffset, HandedOut, MemorySize, Passed}
 
@@ -27,7 +29,11 @@ tests-in-a-row set first full h = in-a-row first full (badOffset (offset h)) Fee
 -- ---- what the filter and the memory size make of a header
 
 module _ (set : Settings) (h : RdhCru) where
-  pub mismatch : isMatch set h ≡ false → filtered set h ≡ skipped (offset h) Passed
+  -- What the filter says, by the target that the settings name, is whether the header matches.
+  pub says-match : (target : FilterTarget) (b : Bool) → target ≡ targetOf (set .filter) → b ≡ matches target (h .«link_id») (feeId h) → b ≡ isMatch set h
+  says-match target b named says = says ∙ ap (λ (t : FilterTarget). matches t (h .«link_id») (feeId h)) named
+
+  pub mismatch : isMatch set h ≡ false → filtered set h ≡ Passed
   unfolding filtered
   mismatch e = off _ _ e
 
@@ -35,10 +41,6 @@ module _ (set : Settings) (h : RdhCru) where
   unfolding filtered
   no-payload e small = on _ _ e ∙ on _ _ small
 
-  pub skipping : isMatch set h ≡ true → badMemorySize (memorySize h) ≡ false → set .«skip_payload» ≡ true → filtered set h ≡ skipped (offset h) HandedOut
+  pub with-payload : isMatch set h ≡ true → badMemorySize (memorySize h) ≡ false → filtered set h ≡ HandedOut
   unfolding filtered
-  skipping e large skip = on _ _ e ∙ off _ _ large ∙ on _ _ skip
-
-  pub reading : isMatch set h ≡ true → badMemorySize (memorySize h) ≡ false → set .«skip_payload» ≡ false → filtered set h ≡ HandedOut
-  unfolding filtered
-  reading e large read = on _ _ e ∙ off _ _ large ∙ off _ _ read
+  with-payload e large = on _ _ e ∙ off _ _ large

@@ -1,7 +1,7 @@
 // What becomes of one header: the refusals and the filter, in their order.
 ghost use mathlib.Core.Path.{_≡_};
 ghost use Rattle.scan_cdp.specs.Steps.{isFirst};
-ghost use Rattle.scan_cdp.specs.Outcomes.{badMemorySize, badOffset, isCounted, filtered, handsOut, matched, skipped, outcomeOf};
+ghost use Rattle.scan_cdp.specs.Outcomes.{badMemorySize, badOffset, isCounted, filtered, handsOut, matched, outcomeOf};
 use rdh::rdh_cru::RDH_SIZE;
 use rdh::rdh_cru::RdhCru;
 use scan_cdp::OpenLoad;
@@ -48,25 +48,12 @@ fn filtered(set: Settings, rdh: RdhCru) -> Outcome
 {
     let target = filter::filter_target(set.filter);
     if !filter::is_rdh_filter_target(rdh.link_id, rdh.rdh0.fee_id.0, target) {
-        return skipped(rdh.offset_new_packet, Outcome::Passed);
+        return Outcome::Passed;
     }
     if sanity_check_memory_size(rdh.memory_size) {
         return Outcome::MemorySize;
     }
-    if set.skip_payload {
-        return skipped(rdh.offset_new_packet, Outcome::HandedOut);
-    }
     Outcome::HandedOut
-}
-
-// The outcome, if the distance to skip is not negative.
-fn skipped(offset: u16, outcome: Outcome) -> Outcome
-    ensures { λ r. ⌜ r ≡ skipped offset outcome ⌝ }
-{
-    if offset < RDH_SIZE {
-        return Outcome::NegativeSkip;
-    }
-    outcome
 }
 
 // Whether step 2 counted the header.
@@ -77,7 +64,6 @@ pub fn is_counted(first: bool, outcome: Outcome) -> bool
         Outcome::FeeIdsFull => true,
         Outcome::BadOffset => first,
         Outcome::MemorySize => true,
-        Outcome::NegativeSkip => true,
         Outcome::Passed => true,
         Outcome::HandedOut => true,
     }
@@ -91,7 +77,6 @@ pub fn is_match(outcome: Outcome) -> bool
         Outcome::FeeIdsFull => false,
         Outcome::BadOffset => false,
         Outcome::MemorySize => true,
-        Outcome::NegativeSkip => false,
         Outcome::Passed => false,
         Outcome::HandedOut => true,
     }
@@ -104,7 +89,6 @@ pub fn hands_out(outcome: Outcome) -> bool
         Outcome::FeeIdsFull => false,
         Outcome::BadOffset => false,
         Outcome::MemorySize => false,
-        Outcome::NegativeSkip => false,
         Outcome::Passed => false,
         Outcome::HandedOut => true,
     }

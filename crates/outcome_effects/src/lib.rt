@@ -41,7 +41,6 @@ pub fn answer(
             position,
         )),
         Outcome::MemorySize => refused(Refusal::MemorySize),
-        Outcome::NegativeSkip => refused(Refusal::NegativeSkip),
         Outcome::Passed => Examined::Passed,
         Outcome::HandedOut => Examined::Answered(LoadCdp::Packet(Packet {
             rdh,

@@ -19,7 +19,6 @@ pub fn place_moved(skip: bool, outcome: Outcome, rdh: RdhCru, left: usize) -> us
         Outcome::FeeIdsFull => RDH_CRU_SIZE_BYTES,
         Outcome::BadOffset => RDH_CRU_SIZE_BYTES,
         Outcome::MemorySize => RDH_CRU_SIZE_BYTES,
-        Outcome::NegativeSkip => RDH_CRU_SIZE_BYTES,
         Outcome::Passed => wide(rdh.offset_new_packet),
         Outcome::HandedOut => read_moved(skip, rdh, left),
     }
@@ -52,7 +51,6 @@ pub fn position_moved(outcome: Outcome, rdh: RdhCru) -> u64
         Outcome::FeeIdsFull => 0,
         Outcome::BadOffset => 0,
         Outcome::MemorySize => 0,
-        Outcome::NegativeSkip => 0,
         Outcome::Passed => wide(rdh.offset_new_packet) as u64,
         Outcome::HandedOut => wide(rdh.offset_new_packet) as u64,
     }
@@ -76,7 +74,6 @@ pub fn load_after(outcome: Outcome, load: OpenLoad, position: Position) -> OpenL
         Outcome::FeeIdsFull => OpenLoad::None,
         Outcome::BadOffset => OpenLoad::None,
         Outcome::MemorySize => OpenLoad::None,
-        Outcome::NegativeSkip => OpenLoad::None,
         Outcome::Passed => OpenLoad::From(start_of(load, position)),
         Outcome::HandedOut => OpenLoad::None,
     }

@@ -1,4 +1,4 @@
--- What a scan answers (W8), and the numbers and values of its refusals (R1 to R6).
+-- What a scan answers (W8), and the numbers and values of its refusals (R1 to R4, R6).
 use Prim.Native.Nat.{ℕ}
 use mathlib.Core.List.{List, [], _∷_}
 use lib.IntN.{ℤ, pos}
@@ -9,7 +9,7 @@ use Rattle.scan_cdp.specs.declared.Position.{Position}
 use Rattle.scan_cdp.specs.declared.Packet.{Packet}
 use Rattle.scan_cdp.specs.declared.Part.{Part}
 use Rattle.scan_cdp.specs.declared.Refusal.{Refusal}
-use Rattle.scan_cdp.specs.declared.Refusal.the-variants.{End, OffsetToNext, MemorySize, FeeIdsFull, NegativeSkip, Unusable}
+use Rattle.scan_cdp.specs.declared.Refusal.the-variants.{End, OffsetToNext, MemorySize, FeeIdsFull, Unusable}
 use Rattle.scan_cdp.specs.declared.LoadCdp.{LoadCdp}
 use Rattle.scan_cdp.specs.declared.LoadCdp.the-variants as Loads
 use Rattle.scan_cdp.specs.declared.Examined.{Examined}
@@ -45,7 +45,6 @@ numberOf End = 1
 numberOf (OffsetToNext distance position) = 2
 numberOf MemorySize = 3
 numberOf FeeIdsFull = 4
-numberOf NegativeSkip = 5
 numberOf Unusable = 6
 
 -- .. and the values returned with it.
@@ -54,7 +53,6 @@ valuesOf End = []
 valuesOf (OffsetToNext distance position) = distance ∷ pos (position .0) ∷ []
 valuesOf MemorySize = []
 valuesOf FeeIdsFull = []
-valuesOf NegativeSkip = []
 valuesOf Unusable = []
 
 abbrev pub refusal : {A : Type 0} → Refusal → Answer A

@@ -1,6 +1,6 @@
 -- What becomes of one header: steps 2 to 4 of an examination (S2 to S4), in their order.
 use Prim.Native.Nat.{ℕ}
-use mathlib.Core.Bool.{Bool, true, false, not, _||_, _&&_}
+use mathlib.Core.Bool.{Bool, true, false, _||_}
 use lib.Dec.{ltb}
 use lib.IntN.{ℤ, subℕ}
 use Rattle.basis.specs.Pick.{pick}
@@ -9,7 +9,7 @@ pub use Rattle.rdh.specs.PayloadSize.{payloadSize}
 use Rattle.rdh.specs.declared.rdh_cru.RdhCru.{RdhCru}
 use Rattle.scan_cdp.specs.declared.Settings.{Settings}
 use Rattle.scan_cdp.specs.declared.Outcome.{Outcome}
-use Rattle.scan_cdp.specs.declared.Outcome.the-variants.{FeeIdsFull, BadOffset, MemorySize, NegativeSkip, Passed, HandedOut}
+use Rattle.scan_cdp.specs.declared.Outcome.the-variants.{FeeIdsFull, BadOffset, MemorySize, Passed, HandedOut}
 
 -- The header's fields by the names that the rules have for them (T2).
 abbrev pub offset : RdhCru → ℕ
@@ -37,17 +37,9 @@ skipDistance n = subℕ n 64
 abbrev pub badMemorySize : ℕ → Bool
 badMemorySize n = ltb n 64
 
--- Where a distance is skipped and is below 0, refusal 5.
-unfoldable pub skipped : ℕ → Outcome → Outcome
-skipped n t = pick (ltb n 64) NegativeSkip t
-
--- Steps 3 and 4. A mismatch is passed, which skips to the next header; a match may have refusal 3, and what is then handed out is skipped
--- unless its payload is read.
+-- Steps 3 and 4. A mismatch is passed; a match is handed out, unless it has refusal 3.
 unfoldable pub filtered : Settings → RdhCru → Outcome
-filtered set h =
-    pick (isMatch set h)
-    (pick (badMemorySize (memorySize h)) MemorySize (pick (set .«skip_payload») (skipped (offset h) HandedOut) HandedOut))
-    (skipped (offset h) Passed)
+filtered set h = pick (isMatch set h) (pick (badMemorySize (memorySize h)) MemorySize HandedOut) Passed
 
 -- Step 2, then the others. A first header meets refusal 4 before 2, a later one 2 before 4 (S2).
 unfoldable pub outcomeOf : Settings → (first full : Bool) → RdhCru → Outcome
@@ -61,7 +53,6 @@ abbrev pub isCounted : Bool → Outcome → Bool
 isCounted first FeeIdsFull = true
 isCounted first BadOffset = first
 isCounted first MemorySize = true
-isCounted first NegativeSkip = true
 isCounted first Passed = true
 isCounted first HandedOut = true
 
@@ -70,7 +61,6 @@ abbrev pub matched : Outcome → Bool
 matched FeeIdsFull = false
 matched BadOffset = false
 matched MemorySize = true
-matched NegativeSkip = false
 matched Passed = false
 matched HandedOut = true
 
@@ -79,6 +69,5 @@ abbrev pub handsOut : Outcome → Bool
 handsOut FeeIdsFull = false
 handsOut BadOffset = false
 handsOut MemorySize = false
-handsOut NegativeSkip = false
 handsOut Passed = false
 handsOut HandedOut = true

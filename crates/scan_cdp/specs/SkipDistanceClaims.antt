@@ -1,4 +1,4 @@
--- The statement on the distance to skip (S10): behind the test of refusal 2 it is never negative, which is why there is no refusal 5.
+-- The statement on the distance to skip (S10): where refusal 2 lets an offset through, it is ahead, and at most 10,000. So no E101 can arise (R5).
 use Prim.Native.Nat.{ℕ}
 use mathlib.Core.Bool.{Bool, false, not}
 use mathlib.Core.Path.{_≡_}

@@ -17,7 +17,6 @@ use Rattle.stats.specs.Lists.{full, placesAfter, twice, usedAfter}
 use Rattle.stats.specs.declared.Count.{Count}
 use Rattle.scan_cdp.specs.Answers.{Found, answerAs, handed, passed}
 use Rattle.scan_cdp.specs.Outcomes.{isCounted, feeId, handsOut, matched, memorySize, offset, payloadSize, outcomeOf, skipDistance}
-use Rattle.scan_cdp.specs.declared.BytePlace.{BytePlace}
 use Rattle.scan_cdp.specs.declared.Position.{Position}
 use Rattle.scan_cdp.specs.declared.Settings.{Settings}
 use Rattle.scan_cdp.specs.declared.OpenLoad.{OpenLoad}
@@ -30,7 +29,7 @@ use Rattle.scan_cdp.specs.declared.Initial.the-variants as Report
 use Rattle.scan_cdp.specs.declared.Marks.{Marks}
 use Rattle.scan_cdp.specs.declared.Tally.{Tally}
 use Rattle.scan_cdp.specs.declared.Outcome.{Outcome}
-use Rattle.scan_cdp.specs.declared.Outcome.the-variants.{FeeIdsFull, BadOffset, MemorySize, NegativeSkip, Passed, HandedOut}
+use Rattle.scan_cdp.specs.declared.Outcome.the-variants.{FeeIdsFull, BadOffset, MemorySize, Passed, HandedOut}
 
 -- An entry: what is answered, its marks, and what state and list hold after it (C2).
 pub record Entry (P : Type 0) : Type 0 where
@@ -164,13 +163,12 @@ tallied set first t counts h =
 unfoldable pub cut : Bool → Outcome → RdhCru → ℕ → Bool
 cut skip t h left = handsOut t && not skip && ltb left (64 + payloadSize h)
 
--- The byte place afterwards: behind the 64 bytes with refusals 2 to 5 (R); by the offset where the header is passed (S3) or its payload
+-- The byte place afterwards: behind the 64 bytes with refusals 2 to 4 (R); by the offset where the header is passed (S3) or its payload
 -- skipped, and by the memory size where it is read (S5); at the end where it is cut (S6).
 unfoldable pub placeAfter : Bool → Outcome → RdhCru → (place left end : ℕ) → ℕ
 placeAfter skip FeeIdsFull h place left end = place + 64
 placeAfter skip BadOffset h place left end = place + 64
 placeAfter skip MemorySize h place left end = place + 64
-placeAfter skip NegativeSkip h place left end = place + 64
 placeAfter skip Passed h place left end = place + offset h
 placeAfter skip HandedOut h place left end = pick skip (place + offset h) (pick (cut skip HandedOut h left) end (place + memorySize h))
 
@@ -179,7 +177,6 @@ abbrev pub positionAfter : Outcome → RdhCru → ℕ → ℕ
 positionAfter FeeIdsFull h position = position
 positionAfter BadOffset h position = position
 positionAfter MemorySize h position = position
-positionAfter NegativeSkip h position = position
 positionAfter Passed h position = position + offset h
 positionAfter HandedOut h position = position + offset h
 
@@ -193,7 +190,6 @@ abbrev pub loadAfter : Outcome → OpenLoad → Position → OpenLoad
 loadAfter FeeIdsFull load position = Load.None
 loadAfter BadOffset load position = Load.None
 loadAfter MemorySize load position = Load.None
-loadAfter NegativeSkip load position = Load.None
 loadAfter Passed load position = Load.From (startOf load position)
 loadAfter HandedOut load position = Load.None
 
@@ -202,7 +198,6 @@ abbrev pub answerIn : {P : Type 0} → Outcome → RdhCru → P → (start posit
 answerIn FeeIdsFull h payload start position = refuses 4 []
 answerIn BadOffset h payload start position = refuses 2 (skipDistance (offset h) ∷ pos (position .0) ∷ [])
 answerIn MemorySize h payload start position = refuses 3 []
-answerIn NegativeSkip h payload start position = refuses 5 []
 answerIn Passed h payload start position = gives passed
 answerIn HandedOut h payload start position = gives (handed (record { header = h; payload = payload; position = start }))
 

@@ -111,13 +111,12 @@ pub struct Packet {
     pub position: Position,
 }
 
-// Refusals 1 to 6.
+// Refusals 1 to 4, and 6: why there is no 5, R5 says.
 pub enum Refusal {
     End,
     OffsetToNext(i32, Position), // the offset less 64, and the position of the header
     MemorySize,
     FeeIdsFull,
-    NegativeSkip,
     Unusable,
 }
 
@@ -131,7 +130,6 @@ impl Refusal {
             Refusal::OffsetToNext(_, _) => 2,
             Refusal::MemorySize => 3,
             Refusal::FeeIdsFull => 4,
-            Refusal::NegativeSkip => 5,
             Refusal::Unusable => 6,
         }
     }
@@ -150,12 +148,11 @@ pub enum Examined {
     Answered(LoadCdp),
 }
 
-// A header is refused with 4, 2, 3 or 5, is passed, or is handed out.
+// A header is refused with 4, 2 or 3, is passed, or is handed out.
 pub enum Outcome {
     FeeIdsFull,
     BadOffset,
     MemorySize,
-    NegativeSkip,
     Passed,
     HandedOut,
 }

@@ -20,7 +20,7 @@ use Rattle.scan_cdp.specs.Answers.{loadAnswer}
 use Rattle.scan_cdp.specs.declared.LoadCdp.{LoadCdp}
 use Rattle.scan_cdp.specs.declared.LoadCdp.the-variants.{Packet, Refused, Want}
 use Rattle.scan_cdp.specs.declared.LoadMarks.{LoadMarks}
-use Rattle.scan_cdp.specs.declared.Refusal.the-variants.{End, FeeIdsFull, MemorySize, NegativeSkip, OffsetToNext, Unusable}
+use Rattle.scan_cdp.specs.declared.Refusal.the-variants.{End, FeeIdsFull, MemorySize, OffsetToNext, Unusable}
 use Rattle.scan_cdp.specs.declared.Marks.{Marks}
 use Rattle.scan_cdp.specs.declared.Part.{Part}
 use Rattle.scan_cdp.specs.declared.Settings.{Settings}
@@ -126,5 +126,4 @@ not-passed (Refused End) = refl
 not-passed (Refused (OffsetToNext distance position)) = refl
 not-passed (Refused MemorySize) = refl
 not-passed (Refused FeeIdsFull) = refl
-not-passed (Refused NegativeSkip) = refl
 not-passed (Refused Unusable) = refl

@@ -2,19 +2,18 @@
 use Prim.Native.Nat.{ℕ, _<_, _≤_}
 use mathlib.Core.Bool.{Bool, true, false}
 use mathlib.Core.List.{List}
-use mathlib.Core.Path.{_≡_, subst}
-use native.Mathlib.Omega.{arith}
+use mathlib.Core.Path.{_≡_}
 use borrow.Author.Tests.{ltb-false, ltb-true}
 use lib.Dec.{ltb}
 use Rattle.basis.specs.PickLaws.{by-test}
 use Rattle.rdh.specs.declared.rdh_cru.RdhCru.{RdhCru}
 use Rattle.scan_cdp.specs.Steps.{outcomeIn}
-use Rattle.scan_cdp.specs.Outcomes.{badOffset, filtered, isMatch, memorySize, offset, outcomeOf, skipped}
+use Rattle.scan_cdp.specs.Outcomes.{badOffset, filtered, isMatch, memorySize, offset, outcomeOf}
 use Rattle.scan_cdp.specs.SkipDistanceLaws.{GoodOffset, good-offset}
 use Rattle.scan_cdp.specs.declared.Settings.{Settings}
 use Rattle.scan_cdp.specs.declared.State.{State}
 use Rattle.scan_cdp.specs.declared.Outcome.{Outcome}
-use Rattle.scan_cdp.specs.declared.Outcome.the-variants.{FeeIdsFull, BadOffset, MemorySize, NegativeSkip, Passed, HandedOut}
+use Rattle.scan_cdp.specs.declared.Outcome.the-variants.{FeeIdsFull, BadOffset, MemorySize, Passed, HandedOut}
 
 -- A match that refusal 3 stops.
 pub record TooSmall (set : Settings) (h : RdhCru) : Type 0 where
@@ -38,14 +37,8 @@ abbrev pub Known : Settings → RdhCru → Outcome → Type 0
 Known set h FeeIdsFull = Unit {0}
 Known set h BadOffset = badOffset (offset h) ≡ true
 Known set h MemorySize = TooSmall set h
-Known set h NegativeSkip = ⊥
 Known set h Passed = NotTaken set h
 Known set h HandedOut = Taken set h
-
-skipped-known : (set : Settings) (h : RdhCru) (t : Outcome) → GoodOffset (offset h) → Known set h t → Known set h (skipped (offset h) t)
-unfolding skipped
-skipped-known set h t good k =
-    by-test (Known set h) (ltb (offset h) 64) NegativeSkip t (λ e. omega (arith, ltb-true (offset h) 64 e, good .least)) (λ e. k)
 
 filtered-known : (set : Settings) (h : RdhCru) → GoodOffset (offset h) → Known set h (filtered set h)
 unfolding filtered
@@ -53,10 +46,8 @@ filtered-known set h good =
     by-test (Known set h) (isMatch set h) _ _
     (λ taken. by-test (Known set h) (ltb (memorySize h) 64) _ _
     (λ small. record { good = good; taken = taken; small = ltb-true (memorySize h) 64 small })
-    (λ large.
-    let whole : Taken set h = record { good = good; taken = taken; large = ltb-false (memorySize h) 64 large } in
-    by-test (Known set h) (set .«skip_payload») _ _ (λ skip. skipped-known set h HandedOut good whole) (λ read. whole)))
-    (λ other. skipped-known set h Passed good (record { good = good; other = other }))
+    (λ large. record { good = good; taken = taken; large = ltb-false (memorySize h) 64 large }))
+    (λ other. record { good = good; other = other })
 
 pub outcome-known : (set : Settings) (first full : Bool) (h : RdhCru) → Known set h (outcomeOf set first full h)
 unfolding outcomeOf
@@ -71,7 +62,3 @@ outcome-known set first full h =
 pub known-here : (set : Settings) (s : State) (feeIds : List ℕ) (h : RdhCru) → Known set h (outcomeIn set (s .progress) feeIds h)
 unfolding outcomeIn
 known-here set s feeIds h = outcome-known set _ _ h
-
--- Refusal 5 is never due: what is skipped has an offset that refusal 2 let through.
-pub never-negative : (set : Settings) (first full : Bool) (h : RdhCru) → outcomeOf set first full h ≡ NegativeSkip → ⊥
-never-negative set first full h e = subst (Known set h) e (outcome-known set first full h)

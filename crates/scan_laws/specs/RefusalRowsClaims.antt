@@ -1,17 +1,19 @@
--- The table of refusals 1 to 6 of an examination, a row for each (R1 to R6, R10 to R12): when exactly it is due, what is returned with it, what
+-- The table of refusals of an examination, 1 to 4 and 6, a row for each (R1 to R4, R6, R10 to R12): when exactly it is due, what is returned with it, what
 -- is left, and which marks come with it (S9). No public contract cites this file: `RefusalRowsLaws` says that the definitions agree with it.
-use Prim.Native.Nat.{ℕ, _+_, _≤_, max}
+use Prim.Native.Nat.{ℕ, _+_, max}
 use mathlib.Core.Bool.{Bool, true, false, not, _||_, _&&_}
 use mathlib.Core.List.{List, [], _∷_}
 use mathlib.Core.Path.{_≡_}
-use lib.Dec.{ltb}
+use lib.Dec.{eqb, ltb}
 use lib.IntN.{ℤ, pos}
 use lib.ListN.{length}
-use Rattle.basis.specs.Refusals.{refuses}
+use Rattle.basis.specs.Refusals.{Answer, gives, refuses}
 use Rattle.filter.specs.Filter.{enabled}
 use Rattle.rdh.specs.declared.rdh_cru.RdhCru.{RdhCru}
 use Rattle.serde_rdh.specs.Layout.{decoded}
 use Rattle.stats.specs.Lists.{full}
+use Rattle.scan_cdp.specs.Answers.{Found}
+use Rattle.scan_cdp.specs.Loads.{loaded}
 use Rattle.scan_cdp.specs.Outcomes.{badMemorySize, badOffset, feeId, isMatch, memorySize, offset, skipDistance}
 use Rattle.scan_cdp.specs.Steps.{Entry, closed, initialOf, isFirst, noMarks, placesListed, raised, unusable, usedListed, withPlace}
 use Rattle.scan_cdp.specs.Windows.{examined, outside, shown}
@@ -20,7 +22,7 @@ use Rattle.scan_cdp.specs.declared.OpenLoad.the-variants as Load
 use Rattle.scan_cdp.specs.declared.Part.{Part}
 use Rattle.scan_cdp.specs.declared.Settings.{Settings}
 use Rattle.scan_cdp.specs.declared.State.{State}
-use Rattle.scan_laws.specs.Runs.{isRefusal}
+use Rattle.scan_laws.specs.Runs.{isRefusal, oneToFour}
 
 -- What is left: state and FEE list.
 pub record Left : Type 0 where
@@ -34,10 +36,10 @@ pub record Row (number : ℕ) (due : Bool) (values : List ℤ) (after : Left) (t
   pub left : due ≡ true → record { state = e .state; feeIds = e .feeIds } ≡ after
   pub marks : due ≡ true → e .marks ≡ told
 
--- The numbers of the rows.
-pub record InTable (number : ℕ) : Type 0 where
-  pub least : 1 ≤ number
-  pub most : number ≤ 6
+-- Whether an answer that is refused has the number of a row: 1 to 4, or 6.
+abbrev pub inTable : {P : Type 0} → Answer (Found P) → Bool
+inTable (gives found) = true
+inTable (refuses number values) = oneToFour number || eqb number 6
 
 -- What refusals 2 to 4 leave: the byte place 64 further on and no load open (S7). Where the header was counted, seen is raised and its link
 -- listed, and where its FEE id had place, that is; where it was taken as a match, filtered is raised. All else is as it was (R10).
@@ -150,14 +152,10 @@ module _ (set : Settings) (s : State) (feeIds w : List ℕ) (first : ℕ) (last 
   abbrev pub Row4 : Type 0
   Row4 = Row 4 when4 [] (behindHeader true false false s feeIds header) (headerMarks set true false s header) reply
 
-  -- R5: never.
-  abbrev pub Row5 : Type 0
-  Row5 = isRefusal 5 (reply .answer) ≡ false
-
   -- R6: all as it was.
   abbrev pub Row6 : Type 0
   Row6 = Row 6 when6 [] (record { state = s; feeIds = feeIds }) noMarks reply
 
-  -- There is no other refusal.
+  -- There is no other refusal, of an examination or of a load.
   abbrev pub OnlyRows : Type 0
-  OnlyRows = (number : ℕ) → isRefusal number (reply .answer) ≡ true → InTable number
+  OnlyRows = (inTable (reply .answer) ≡ true) × (inTable (loaded set s feeIds w first last .answer) ≡ true)

@@ -1,11 +1,10 @@
 -- Proofs of the rows of the table of refusals: which refusal is due follows from the outcome's order of tests, and what it leaves from the
 -- outcome's row.
-use Prim.Native.Nat.{ℕ, _+_, _-_, _≤_, _<_}
+use Prim.Native.Nat.{ℕ, zero, suc, _+_, _-_, _/_, _≤_, _<_}
 use mathlib.Core.Bool.{Bool, true, false, not, _||_, _&&_, and-false, and-true, false≢true, true≢false}
 use mathlib.Core.List.{List, []}
 use mathlib.Core.Path.{_≡_, refl, ap, subst, sym, _∙_}
-use native.Mathlib.Omega.{arith}
-use borrow.Author.Tests.{eqb-true, le-ltb, leb-true, lt-ltb}
+use borrow.Author.Tests.{le-ltb, leb-true, lt-ltb}
 use lib.Dec.{eqb, leb, ltb}
 use lib.IntN.{ℤ}
 use lib.ListN.{length, take}
@@ -17,22 +16,24 @@ use Rattle.rdh.specs.declared.rdh_cru.RdhCru.{RdhCru}
 use Rattle.stats.specs.Lists.{full, member}
 use Rattle.stats.specs.ListsLaws.{no-place}
 use Rattle.scan_cdp.specs.Answers.{answerAs}
-use Rattle.scan_cdp.specs.Outcomes.{feeId, filtered, handsOut, isCounted, isMatch, matched, memorySize, offset, outcomeOf, payloadSize, skipped}
+use Rattle.scan_cdp.specs.Loads.{Loaded, isPassed, loaded, loadedFrom}
+use Rattle.scan_cdp.specs.Outcomes.{feeId, filtered, handsOut, isCounted, isMatch, matched, memorySize, outcomeOf, payloadSize}
 use Rattle.scan_cdp.specs.Steps.{Entry, answerIn, cut, ended, entryAt, entryOf, initialOf, isFirst, loadAfter, marksOf, outcomeIn, placeAfter, placesListed, positionAfter, progressAfter, raised, tallied, usedListed}
 use Rattle.scan_cdp.specs.Windows.{examined, located, placed}
+use Rattle.scan_cdp.specs.declared.LoadMarks.{LoadMarks}
 use Rattle.scan_cdp.specs.declared.Marks.{Marks}
 use Rattle.scan_cdp.specs.declared.OpenLoad.{OpenLoad}
 use Rattle.scan_cdp.specs.declared.OpenLoad.the-variants as Load
 use Rattle.scan_cdp.specs.declared.Outcome.{Outcome}
-use Rattle.scan_cdp.specs.declared.Outcome.the-variants.{FeeIdsFull, BadOffset, MemorySize, NegativeSkip, Passed, HandedOut}
+use Rattle.scan_cdp.specs.declared.Outcome.the-variants.{FeeIdsFull, BadOffset, MemorySize, Passed, HandedOut}
 use Rattle.scan_cdp.specs.declared.Part.{Part}
 use Rattle.scan_cdp.specs.declared.Position.{Position}
 use Rattle.scan_cdp.specs.declared.Settings.{Settings}
 use Rattle.scan_cdp.specs.declared.State.{State}
-use Rattle.scan_laws.specs.RefusalRowsClaims.{InTable, Left, OnlyRows, Row, Row1, Row2, Row3, Row4, Row5, Row6, bad, behindHeader, header, headerMarks, looked, noPlace, rest, short, when1, when6}
-use Rattle.scan_laws.specs.RowLaws.{both, cut-tells}
+use Rattle.scan_laws.specs.RefusalRowsClaims.{Left, OnlyRows, Row, Row1, Row2, Row3, Row4, Row6, bad, behindHeader, header, headerMarks, inTable, looked, noPlace, rest, short, when1, when6}
+use Rattle.scan_laws.specs.RowLaws.{both, cut-tells, header-number}
 use Rattle.scan_laws.specs.Runs.{isRefusal}
-use Rattle.scan_laws.specs.StepLaws.{Admitted, entry-answers, entry-cases, examined-cases, no-negative-skip, shownTo}
+use Rattle.scan_laws.specs.StepLaws.{Admitted, entry-answers, entry-cases, examined-cases, shownTo}
 
 -- ---- which refusal an outcome is
 
@@ -41,7 +42,6 @@ abbrev numberOf : Outcome → ℕ
 numberOf FeeIdsFull = 4
 numberOf BadOffset = 2
 numberOf MemorySize = 3
-numberOf NegativeSkip = 5
 numberOf Passed = 0
 numberOf HandedOut = 0
 
@@ -92,34 +92,28 @@ module _ (set : Settings) (h : RdhCru) where
   small = isMatch set h && ltb (memorySize h) 64
 
   filtered-cases : (P : Outcome → Type 0) → (small ≡ true → P MemorySize)
-      → (small ≡ false → P NegativeSkip) → (small ≡ false → P Passed) → (small ≡ false → P HandedOut) → P (filtered set h)
-  unfolding filtered skipped
-  filtered-cases P is-small skips passes hands =
+      → (small ≡ false → P Passed) → (small ≡ false → P HandedOut) → P (filtered set h)
+  unfolding filtered
+  filtered-cases P is-small passes hands =
       by-test P (isMatch set h) _ _
       (λ taken. by-test P (ltb (memorySize h) 64) _ _
       (λ below. is-small (λ i. taken i && below i))
-      (λ large.
-      let fine : small ≡ false = λ i. taken i && large i in
-      by-test P (set .«skip_payload») _ _
-      (λ skip. by-test P (ltb (offset h) 64) _ _ (λ back. skips fine) (λ ahead. hands fine)) (λ read. hands fine)))
-      (λ other.
-      let fine : small ≡ false = ap (λ (b : Bool). b && ltb (memorySize h) 64) other in
-      by-test P (ltb (offset h) 64) _ _ (λ back. skips fine) (λ ahead. passes fine))
+      (λ large. hands (λ i. taken i && large i)))
+      (λ other. passes (ap (λ (b : Bool). b && ltb (memorySize h) 64) other))
 
   filtered-2 : refusedWith 2 (filtered set h) ≡ false
-  filtered-2 = filtered-cases (λ t. refusedWith 2 t ≡ false) (λ e. refl) (λ e. refl) (λ e. refl) (λ e. refl)
+  filtered-2 = filtered-cases (λ t. refusedWith 2 t ≡ false) (λ e. refl) (λ e. refl) (λ e. refl)
 
   filtered-4 : refusedWith 4 (filtered set h) ≡ false
-  filtered-4 = filtered-cases (λ t. refusedWith 4 t ≡ false) (λ e. refl) (λ e. refl) (λ e. refl) (λ e. refl)
+  filtered-4 = filtered-cases (λ t. refusedWith 4 t ≡ false) (λ e. refl) (λ e. refl) (λ e. refl)
 
   filtered-3 : refusedWith 3 (filtered set h) ≡ small
-  filtered-3 = filtered-cases (λ t. refusedWith 3 t ≡ small) sym sym sym sym
+  filtered-3 = filtered-cases (λ t. refusedWith 3 t ≡ small) sym sym sym
 
 is-2 : (t : Outcome) → refusedWith 2 t ≡ true → t ≡ BadOffset
 is-2 FeeIdsFull e = absurd (false≢true e)
 is-2 BadOffset e = refl
 is-2 MemorySize e = absurd (false≢true e)
-is-2 NegativeSkip e = absurd (false≢true e)
 is-2 Passed e = absurd (false≢true e)
 is-2 HandedOut e = absurd (false≢true e)
 
@@ -127,7 +121,6 @@ is-3 : (t : Outcome) → refusedWith 3 t ≡ true → t ≡ MemorySize
 is-3 FeeIdsFull e = absurd (false≢true e)
 is-3 BadOffset e = absurd (false≢true e)
 is-3 MemorySize e = refl
-is-3 NegativeSkip e = absurd (false≢true e)
 is-3 Passed e = absurd (false≢true e)
 is-3 HandedOut e = absurd (false≢true e)
 
@@ -135,7 +128,6 @@ is-4 : (t : Outcome) → refusedWith 4 t ≡ true → t ≡ FeeIdsFull
 is-4 FeeIdsFull e = refl
 is-4 BadOffset e = absurd (false≢true e)
 is-4 MemorySize e = absurd (false≢true e)
-is-4 NegativeSkip e = absurd (false≢true e)
 is-4 Passed e = absurd (false≢true e)
 is-4 HandedOut e = absurd (false≢true e)
 
@@ -145,7 +137,6 @@ answer-number : {P Q : Type 0} (f : P → Q) (n : ℕ) (t : Outcome) (h : RdhCru
 answer-number f n FeeIdsFull h payload from position other = refl
 answer-number f n BadOffset h payload from position other = refl
 answer-number f n MemorySize h payload from position other = refl
-answer-number f n NegativeSkip h payload from position other = refl
 answer-number f n Passed h payload from position other = sym other
 answer-number f n HandedOut h payload from position other = sym other
 
@@ -380,9 +371,6 @@ module _ (set : Settings) (s : State) (feeIds w : List ℕ) (first : ℕ) (last 
           let fills = filled FeeIdsFull 4 [] true false halts-4 (and-true (set .stats) ∙ stats) (and-false filters) (λ payload from. refl) (is-4 outcome is) in
           record { answer = fills .answer; left = fills .left ∙ full-stays full-list; marks = fills .marks }
 
-  pub row-5 : Row5 set s feeIds w first last
-  row-5 = no-negative-skip set s feeIds w first last
-
   pub row-1 : Row1 set s feeIds w first last
   unfolding ended
   row-1 =
@@ -408,21 +396,30 @@ module _ (set : Settings) (s : State) (feeIds w : List ℕ) (first : ℕ) (last 
       (λ a long more cuts. not-due 6 _ _ _ _ _ refl (no-six a))
       (λ a long whole. not-due 6 _ _ _ _ _ (entry-answers set s feeIds (shownTo s w first) (first + length w) _ .no-six) (no-six a))
 
-  pub only-rows : OnlyRows set s feeIds w first last
+  examined-in-table : inTable (examined set s feeIds w first last .answer) ≡ true
   unfolding ended
-  only-rows number =
-      examined-cases set s feeIds w first last (λ e. isRefusal number (e .answer) ≡ true → InTable number)
-      (λ six is. in-table 6 is (omega arith) (omega arith))
-      (λ a below more is. absurd (false≢true is))
-      (λ a below all is. in-table 1 is (omega arith) (omega arith))
-      (λ a long more cuts is. absurd (false≢true is))
+  examined-in-table =
+      examined-cases set s feeIds w first last (λ e. inTable (e .answer) ≡ true)
+      (λ six. refl)
+      (λ a below more. refl)
+      (λ a below all. refl)
+      (λ a long more cuts. refl)
       (λ a long whole.
       entry-cases set s feeIds (shownTo s w first) (first + length w)
-      (λ answer. isRefusal number (placed (s .progress .place .0 + 64 - first) answer) ≡ true → InTable number)
-      (λ n values r is. in-table n is (omega (arith, r .least)) (omega (arith, r .most)))
-      (λ other is. absurd (false≢true is)) (λ p same taken is. absurd (false≢true is)))
-    where
-      in-table : (n : ℕ) → eqb n number ≡ true → 1 ≤ n → n ≤ 6 → InTable number
-      in-table n is least most =
-          let same = eqb-true n number is in
-          record { least = omega (arith, same, least); most = omega (arith, same, most) }
+      (λ answer. inTable (placed (s .progress .place .0 + 64 - first) answer) ≡ true)
+      (λ n values r. ap (λ (b : Bool). b || eqb n 6) (header-number n r)) (λ other. refl) (λ p same taken. refl))
+
+module _ (set : Settings) (w : List ℕ) (first : ℕ) (last : Bool) where
+  loaded-in-table : (n : ℕ) (ms : LoadMarks) (s : State) (feeIds : List ℕ)
+      → inTable (loadedFrom n set ms s feeIds w first last .answer) ≡ true
+  unfolding loadedFrom
+  loaded-in-table zero ms s feeIds = refl
+  loaded-in-table (suc n) ms s feeIds =
+      let e = examined set s feeIds w first last in
+      by-test (λ (r : Loaded Part). inTable (r .answer) ≡ true) (isPassed (e .answer)) _ _
+      (λ passes. loaded-in-table n _ (e .state) (e .feeIds)) (λ stops. examined-in-table set s feeIds w first last)
+
+pub only-rows : (set : Settings) (s : State) (feeIds w : List ℕ) (first : ℕ) (last : Bool) → OnlyRows set s feeIds w first last
+unfolding loaded
+only-rows set s feeIds w first last =
+    (examined-in-table set s feeIds w first last, loaded-in-table set w first last (length w / 64 + 1) _ s feeIds)

@@ -5,7 +5,7 @@ use mathlib.Core.Bool.{Bool, true, false, not, _||_, _&&_, false≢true, or-true
 use mathlib.Core.List.{List, []}
 use mathlib.Core.Path.{_≡_, refl, ap, subst₂, sym, _∙_}
 use native.Mathlib.Omega.{arith}
-use borrow.Author.Tests.{le-ltb, ltb-false, ltb-true, not-true}
+use borrow.Author.Tests.{le-leb, le-ltb, ltb-false, ltb-true, not-true}
 use lib.Dec.{ltb}
 use lib.IntN.{ℤ}
 use lib.ListN.{length, take, drop, length-drop, length-take}
@@ -18,11 +18,12 @@ use Rattle.scan_cdp.specs.Steps.{answerIn, cut, entryOf, marksOf, payloadOf, pl
 use Rattle.scan_cdp.specs.Outcomes.{handsOut, memorySize, payloadSize}
 use Rattle.scan_laws.specs.Elsewhere.{elsewhere}
 use Rattle.scan_laws.specs.OutcomeLaws.{Known, NotTaken, Taken}
+use Rattle.scan_laws.specs.Runs.{oneToFour}
 use Rattle.scan_cdp.specs.declared.Position.{Position}
 use Rattle.scan_cdp.specs.declared.Settings.{Settings}
 use Rattle.scan_cdp.specs.declared.State.{State}
 use Rattle.scan_cdp.specs.declared.Outcome.{Outcome}
-use Rattle.scan_cdp.specs.declared.Outcome.the-variants.{FeeIdsFull, BadOffset, MemorySize, NegativeSkip, Passed, HandedOut}
+use Rattle.scan_cdp.specs.declared.Outcome.the-variants.{FeeIdsFull, BadOffset, MemorySize, Passed, HandedOut}
 
 -- ---- tests
 
@@ -43,7 +44,6 @@ pub answer-as : {P Q : Type 0} (f : P → Q) (t : Outcome) (h : RdhCru) (payload
 answer-as f FeeIdsFull h payload from position = refl
 answer-as f BadOffset h payload from position = refl
 answer-as f MemorySize h payload from position = refl
-answer-as f NegativeSkip h payload from position = refl
 answer-as f Passed h payload from position = refl
 answer-as f HandedOut h payload from position = refl
 
@@ -51,6 +51,9 @@ answer-as f HandedOut h payload from position = refl
 pub record RefusedNumber (number : ℕ) : Type 0 where
   pub least : 2 ≤ number
   pub most : number ≤ 4
+
+pub header-number : (number : ℕ) → RefusedNumber number → oneToFour number ≡ true
+header-number number r = λ i. le-leb 1 number (omega (arith, r .least)) i && le-leb number 4 (r .most) i
 
 -- A header is refused, passed or handed out: what holds of the answer, for any payload, in these three cases holds of every outcome's.
 pub answer-cases : {P : Type 0} (set : Settings) (t : Outcome) (h : RdhCru) (from position : Position)
@@ -62,7 +65,6 @@ pub answer-cases : {P : Type 0} (set : Settings) (t : Outcome) (h : RdhCru) (fro
 answer-cases set FeeIdsFull h from position Q k refused passes hands = refused 4 _ (record { least = omega arith; most = omega arith }) refl
 answer-cases set BadOffset h from position Q k refused passes hands = refused 2 _ (record { least = omega arith; most = omega arith }) refl
 answer-cases set MemorySize h from position Q k refused passes hands = refused 3 _ (record { least = omega arith; most = omega arith }) refl
-answer-cases set NegativeSkip h from position Q k refused passes hands = absurd k
 answer-cases set Passed h from position Q k refused passes hands = passes k
 answer-cases set HandedOut h from position Q k refused passes hands = hands k
 
@@ -72,7 +74,6 @@ handed-out : (t : Outcome) → handsOut t ≡ true → t ≡ HandedOut
 handed-out FeeIdsFull e = absurd (false≢true e)
 handed-out BadOffset e = absurd (false≢true e)
 handed-out MemorySize e = absurd (false≢true e)
-handed-out NegativeSkip e = absurd (false≢true e)
 handed-out Passed e = absurd (false≢true e)
 handed-out HandedOut e = refl
 
@@ -130,7 +131,6 @@ unfolding placeAfter cut
 place-by-cut skip FeeIdsFull h place left end = refl
 place-by-cut skip BadOffset h place left end = refl
 place-by-cut skip MemorySize h place left end = refl
-place-by-cut skip NegativeSkip h place left end = refl
 place-by-cut skip Passed h place left end = refl
 place-by-cut true HandedOut h place left end = refl
 place-by-cut false HandedOut h place left end =
@@ -153,7 +153,6 @@ unfolding placeAfter
 place-moves set FeeIdsFull h place left end k ends = omega arith
 place-moves set BadOffset h place left end k ends = omega arith
 place-moves set MemorySize h place left end k ends = omega arith
-place-moves set NegativeSkip h place left end k ends = absurd k
 place-moves set Passed h place left end k ends = omega (arith, k .good .least)
 place-moves set HandedOut h place left end k ends =
     by-test (λ (n : ℕ). place + 64 ≤ n) (set .«skip_payload») _ _

@@ -1,8 +1,8 @@
 -- A run of examinations over a last window, up to the one that closes it (S11).
 use Prim.Native.Nat.{ℕ, zero, suc}
-use mathlib.Core.Bool.{Bool, true, false, _||_}
+use mathlib.Core.Bool.{Bool, true, false, _||_, _&&_}
 use mathlib.Core.List.{List}
-use lib.Dec.{eqb}
+use lib.Dec.{eqb, leb}
 use Rattle.basis.specs.Pick.{pick}
 use Rattle.basis.specs.Refusals.{Answer, gives, refuses}
 use Rattle.scan_cdp.specs.Answers.{Found, handed, passed, wants}
@@ -16,6 +16,10 @@ use Rattle.scan_cdp.specs.declared.State.{State}
 abbrev pub isRefusal : {P : Type 0} → ℕ → Answer (Found P) → Bool
 isRefusal n (gives found) = false
 isRefusal n (refuses number values) = eqb number n
+
+-- Whether a number is 1 to 4: these refusals close the load (S7), and are a chain's last entry (C3).
+abbrev pub oneToFour : ℕ → Bool
+oneToFour n = leb 1 n && leb n 4
 
 -- Whether an answer closes a run: refusal 1 or 6 (S11).
 abbrev pub closes : {P : Type 0} → Answer (Found P) → Bool

@@ -341,11 +341,10 @@ pub record Wanted (s : State) (feeIds : List ℕ) (last : Bool) (e : Entry Part)
   pub same-fee-ids : e .feeIds ≡ feeIds
   pub no-marks : e .marks ≡ noMarks
 
--- What no header is answered with: a want, and refusals 1, 5 and 6.
+-- What no header is answered with: a want, and refusals 1 and 6.
 pub record OfHeader (answer : Answer (Found Part)) : Type 0 where
   pub no-want : isWant answer ≡ false
   pub no-end : isRefusal 1 answer ≡ false
-  pub no-skip : isRefusal 5 answer ≡ false
   pub no-six : isRefusal 6 answer ≡ false
 
 pub entry-answers : (set : Settings) (s : State) (feeIds rest : List ℕ) (end start : ℕ)
@@ -356,11 +355,10 @@ entry-answers set s feeIds rest end start =
     record {
       no-want = refl;
       no-end = ne-eqb number 1 (λ e. omega (arith, r .least, e));
-      no-skip = ne-eqb number 5 (λ e. omega (arith, r .most, e));
       no-six = ne-eqb number 6 (λ e. omega (arith, r .most, e));
     })
-    (λ other. record { no-want = refl; no-end = refl; no-skip = refl; no-six = refl })
-    (λ p same taken. record { no-want = refl; no-end = refl; no-skip = refl; no-six = refl })
+    (λ other. record { no-want = refl; no-end = refl; no-six = refl })
+    (λ p same taken. record { no-want = refl; no-end = refl; no-six = refl })
 
 pub examined-wants : (set : Settings) (s : State) (feeIds w : List ℕ) (first : ℕ) (last : Bool)
     → isWant (examined set s feeIds w first last .answer) ≡ true → Wanted s feeIds last (examined set s feeIds w first last)
@@ -396,18 +394,6 @@ no-want-at-last set s feeIds w first =
     (λ a short all. refl)
     (λ a long more cuts. absurd (true≢false more))
     (λ a long whole. entry-answers set s feeIds (shownTo s w first) (first + length w) _ .no-want)
-
--- Refusal 5 is never answered.
-pub no-negative-skip : (set : Settings) (s : State) (feeIds w : List ℕ) (first : ℕ) (last : Bool)
-    → isRefusal 5 (examined set s feeIds w first last .answer) ≡ false
-unfolding ended
-no-negative-skip set s feeIds w first last =
-    examined-cases set s feeIds w first last (λ e. isRefusal 5 (e .answer) ≡ false)
-    (λ six. refl)
-    (λ a short more. refl)
-    (λ a short all. refl)
-    (λ a long more cuts. refl)
-    (λ a long whole. entry-answers set s feeIds (shownTo s w first) (first + length w) _ .no-skip)
 
 -- Over a last window, all but the end (1 or 6) move on by 64 or more.
 pub examined-moves : (set : Settings) (s : State) (feeIds w : List ℕ) (first : ℕ)

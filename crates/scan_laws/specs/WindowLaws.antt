@@ -22,7 +22,7 @@ use Rattle.scan_cdp.specs.declared.Position.{Position}
 use Rattle.scan_cdp.specs.declared.Settings.{Settings}
 use Rattle.scan_cdp.specs.declared.State.{State}
 use Rattle.scan_cdp.specs.declared.Outcome.{Outcome}
-use Rattle.scan_cdp.specs.declared.Outcome.the-variants.{FeeIdsFull, BadOffset, MemorySize, NegativeSkip, Passed, HandedOut}
+use Rattle.scan_cdp.specs.declared.Outcome.the-variants.{FeeIdsFull, BadOffset, MemorySize, Passed, HandedOut}
 
 -- ---- the payload
 
@@ -47,7 +47,6 @@ pub placed-answer : (start : ℕ) (skip : Bool) (t : Outcome) (h : RdhCru) (rest
 placed-answer start skip FeeIdsFull h rest from position = refl
 placed-answer start skip BadOffset h rest from position = refl
 placed-answer start skip MemorySize h rest from position = refl
-placed-answer start skip NegativeSkip h rest from position = refl
 placed-answer start skip Passed h rest from position = refl
 placed-answer start skip HandedOut h rest from position = refl
 

@@ -5,6 +5,7 @@ use lib.Dec.{eqb}
 use Rattle.scan_cdp.specs.Answers.{loadAnswer}
 use Rattle.scan_cdp.specs.declared.LoadCdp.{LoadCdp}
 use Rattle.chain.specs.Calls.{endsBy}
+use Rattle.chain.specs.CallsLaws.{ends-but-6}
 use borrow.Author.Needs.{needs}
 use Rattle.chain_replay_calls.proofs.ends_load.Statement.{statement}
 use Rattle.chain_replay_calls.proofs.ends_load.Tie as tie
@@ -35,6 +36,7 @@ returns-3 c =
     let found = c .before .before .before in
     let args = found .before .before .args in
     (λ i. not (eqb (c .before .number .ensures i) (c .number2 .ensures i)) || args .six)
+    ∙ ends-but-6 (found .found .given .0 .0) (args .six)
     ∙ sym (ap (λ (x : LoadCdp). endsBy (loadAnswer x) (args .six)) (found .found .given .1))
 
 pub ends-load-spec : {M : Type 1} → statement M

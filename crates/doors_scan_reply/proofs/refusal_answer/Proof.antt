@@ -11,7 +11,7 @@ use types.Run.{OneOf, miss}
 use Rattle.scan_cdp.specs.Answers.{numberOf, valuesOf}
 use Rattle.scan_cdp.specs.declared.Refusal.{Refusal}
 use Rattle.scan_cdp.proofs.Refusal.{the-type}
-use Rattle.scan_cdp.specs.declared.Refusal.the-variants.{End, FeeIdsFull, MemorySize, NegativeSkip, OffsetToNext, Unusable}
+use Rattle.scan_cdp.specs.declared.Refusal.the-variants.{End, FeeIdsFull, MemorySize, OffsetToNext, Unusable}
 use Rattle.doors_scan_reply.specs.Replies.{firstOf, refusedWith, secondOf}
 use borrow.Author.Needs.{needs}
 use Rattle.doors_scan_reply.proofs.refusal_answer.Statement.{statement}
@@ -19,14 +19,13 @@ use Rattle.doors_scan_reply.proofs.refusal_answer.Tie as tie
 
 -- the refusals but 2, by their places in the enum
 abbrev others : List ℕ
-others = 0 ∷ 2 ∷ 3 ∷ 4 ∷ 5 ∷ []
+others = 0 ∷ 2 ∷ 3 ∷ 4 ∷ []
 
 no-values : (why : Refusal) → OneOf others (tagOf the-type why) → valuesOf why ≡ []
 no-values End other = refl
 no-values (OffsetToNext distance position) other = absurd (miss others 1 tt other)
 no-values MemorySize other = refl
 no-values FeeIdsFull other = refl
-no-values NegativeSkip other = refl
 no-values Unusable other = refl
 
 number-requires : tie.Need-number-requires

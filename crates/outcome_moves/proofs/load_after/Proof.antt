@@ -17,14 +17,11 @@ enum-told-3 c = search needs
 enum-told-4 : tie.Need-enum-told-4
 enum-told-4 c = search needs
 
-enum-told-5 : tie.Need-enum-told-5
-enum-told-5 c = search needs
-
 start-of-requires : tie.Need-start-of-requires
 start-of-requires c κs = search needs
 
-enum-told-6 : tie.Need-enum-told-6
-enum-told-6 c = search needs
+enum-told-5 : tie.Need-enum-told-5
+enum-told-5 c = search needs
 
 returns : tie.Need-returns
 returns c = search needs
@@ -36,13 +33,10 @@ returns-3 : tie.Need-returns-3
 returns-3 c = search needs
 
 returns-4 : tie.Need-returns-4
-returns-4 c = search needs
+returns-4 c = rw (c .before .enum-told4 .given .1) (ap From (c .start-of .ensures))
 
 returns-5 : tie.Need-returns-5
-returns-5 c = rw (c .before .enum-told5 .given .1) (ap From (c .start-of .ensures))
-
-returns-6 : tie.Need-returns-6
-returns-6 c = search needs
+returns-5 c = search needs
 
 pub load-after-spec : {M : Type 1} → statement M
 load-after-spec =
@@ -52,12 +46,10 @@ load-after-spec =
     enum-told-2
     enum-told-3
     enum-told-4
-    enum-told-5
     start-of-requires
-    enum-told-6
+    enum-told-5
     returns
     returns-2
     returns-3
     returns-4
-    returns-5
-    returns-6)
+    returns-5)

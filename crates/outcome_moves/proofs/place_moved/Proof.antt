@@ -19,14 +19,11 @@ enum-told-3 c = search needs
 enum-told-4 : tie.Need-enum-told-4
 enum-told-4 c = search needs
 
-enum-told-5 : tie.Need-enum-told-5
-enum-told-5 c = search needs
-
 wide-requires : tie.Need-wide-requires
 wide-requires c κs = search needs
 
-enum-told-6 : tie.Need-enum-told-6
-enum-told-6 c = search needs
+enum-told-5 : tie.Need-enum-told-5
+enum-told-5 c = search needs
 
 read-moved-requires : tie.Need-read-moved-requires
 read-moved-requires c κs = search needs
@@ -45,15 +42,11 @@ returns-3 c = (λ place. rw (c .enum-told3 .given .1) refl, omega arith)
 
 returns-4 : tie.Need-returns-4
 unfolding placeAfter
-returns-4 c = (λ place. rw (c .enum-told4 .given .1) refl, omega arith)
+returns-4 c =
+    (λ place. rw (c .before .enum-told4 .given .1) (ap (λ (n : ℕ). place + n) (c .wide .ensures .0)), omega (arith, c .wide .ensures .1))
 
 returns-5 : tie.Need-returns-5
-unfolding placeAfter
-returns-5 c =
-    (λ place. rw (c .before .enum-told5 .given .1) (ap (λ (n : ℕ). place + n) (c .wide .ensures .0)), omega (arith, c .wide .ensures .1))
-
-returns-6 : tie.Need-returns-6
-returns-6 c = (rw (c .before .enum-told6 .given .1) (c .read-moved .ensures .0), c .read-moved .ensures .1)
+returns-5 c = (rw (c .before .enum-told5 .given .1) (c .read-moved .ensures .0), c .read-moved .ensures .1)
 
 pub place-moved-spec : {M : Type 1} → statement M
 place-moved-spec =
@@ -63,13 +56,11 @@ place-moved-spec =
     enum-told-2
     enum-told-3
     enum-told-4
-    enum-told-5
     wide-requires
-    enum-told-6
+    enum-told-5
     read-moved-requires
     returns
     returns-2
     returns-3
     returns-4
-    returns-5
-    returns-6)
+    returns-5)

@@ -18,14 +18,11 @@ enum-told-3 c = search needs
 enum-told-4 : tie.Need-enum-told-4
 enum-told-4 c = search needs
 
-enum-told-5 : tie.Need-enum-told-5
-enum-told-5 c = search needs
-
 wide-requires : tie.Need-wide-requires
 wide-requires c κs = search needs
 
-enum-told-6 : tie.Need-enum-told-6
-enum-told-6 c = search needs
+enum-told-5 : tie.Need-enum-told-5
+enum-told-5 c = search needs
 
 wide-requires-2 : tie.Need-wide-requires-2
 wide-requires-2 c κs = search needs
@@ -44,15 +41,12 @@ returns-3 : tie.Need-returns-3
 returns-3 c = (λ position. rw (c .enum-told3 .given .1) (stays position), omega arith)
 
 returns-4 : tie.Need-returns-4
-returns-4 c = (λ position. rw (c .enum-told4 .given .1) (stays position), omega arith)
+returns-4 c =
+    (λ position. rw (c .before .enum-told4 .given .1) (ap (λ (n : ℕ). position + n) (c .wide .ensures .0)), c .wide .ensures .1)
 
 returns-5 : tie.Need-returns-5
 returns-5 c =
-    (λ position. rw (c .before .enum-told5 .given .1) (ap (λ (n : ℕ). position + n) (c .wide .ensures .0)), c .wide .ensures .1)
-
-returns-6 : tie.Need-returns-6
-returns-6 c =
-    (λ position. rw (c .before .enum-told6 .given .1) (ap (λ (n : ℕ). position + n) (c .wide2 .ensures .0)), c .wide2 .ensures .1)
+    (λ position. rw (c .before .enum-told5 .given .1) (ap (λ (n : ℕ). position + n) (c .wide2 .ensures .0)), c .wide2 .ensures .1)
 
 pub position-moved-spec : {M : Type 1} → statement M
 position-moved-spec =
@@ -62,13 +56,11 @@ position-moved-spec =
     enum-told-2
     enum-told-3
     enum-told-4
-    enum-told-5
     wide-requires
-    enum-told-6
+    enum-told-5
     wide-requires-2
     returns
     returns-2
     returns-3
     returns-4
-    returns-5
-    returns-6)
+    returns-5)
