@@ -12,7 +12,7 @@ use Rattle.chain.specs.Chain.{Kept, isRefused, left, placeOf}
 use Rattle.chain.specs.Following.{Each}
 use Rattle.chain.specs.Walk.{Met, walk}
 
--- The distance of the header lies in 0 to 10,000. By 64 and that the position grows, and the byte place, unless payload is read (S3, S5).
+-- The header's distance lies in 0 to 10,000. The position grows by 64 and it, and so does the place unless payload is read (S3, S5).
 pub record SkipsAhead (set : Settings) (m : Met) : Type 0 where
   pub reach : inReach (skipDistance (offset (m .header))) ≡ true
   pub position : pos (m .entry .state .progress .position .0)

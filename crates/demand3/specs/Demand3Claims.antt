@@ -17,7 +17,7 @@ pub record Demand3 : Type 0 where
   pub kinds : OnlyEntries
   -- C3: the last entry of a chain is refused, and no other one is.
   pub last : RefusedLast
-  -- S10: behind each header that is passed or handed out, 0 to 10,000 are skipped.
+  -- S10: from behind each header that is passed or handed out, the next one is 0 to 10,000 bytes ahead.
   pub skips : EachSkipsAhead
   -- S11: a chain has length / 64 + 1 entries at most, whatever more it is allowed.
   pub allowed : Allowance
