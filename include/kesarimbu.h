@@ -313,8 +313,8 @@ struct kesarimbu_reply kesarimbu_load(struct kesarimbu_settings settings, struct
                                       uint8_t *header);
 
 /* Lists packets: loads one after the other, and writes each packet's row, and its verdict if it is not sound, a line each, at the start of
-   `out`, until a load finds no packet, or `out` might not hold the next lines. A refusal 1 to 4 or 6 adds the last lines, with the counts. Marks
-   are not told. Call it again with what came back, and with a buffer to fill anew, as long as the kind is KESARIMBU_FULL or
+   `out`, until a load finds no packet, or `out` might not hold the next lines. A refusal 1 to 4 or 6 adds the last lines, with the counts.
+   Marks are not told. Call it again with what came back, and with a buffer to fill anew, as long as the kind is KESARIMBU_FULL or
    KESARIMBU_WANT. */
 struct kesarimbu_listed kesarimbu_list(struct kesarimbu_settings settings, struct kesarimbu_state state,
                                        struct kesarimbu_validator validator, uint8_t *links, uint16_t *fee_ids, size_t places,
