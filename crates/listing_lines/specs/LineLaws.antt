@@ -1,4 +1,4 @@
--- Laws of the lines: a position's digits, and how long a line and the last lines can be.
+-- Laws of the lines: how long a line and the last lines can be.
 use Prim.Native.Nat.{ℕ, _+_, _/_, _%_, _^_, _≤_, _<_}
 use mathlib.Core.Path.{_≡_, ap, sym, _∙_}
 use mathlib.Core.List.{List, [], _∷_, _++_, map, map-append}
@@ -11,21 +11,6 @@ use Rattle.text.specs.Put.{Put}
 use Rattle.text.specs.PutLaws.{and-then, respelled}
 use Rattle.scan_cdp.specs.declared.Counts.{Counts}
 use Rattle.listing_lines.specs.Lines.{countLine, lastLines, lineAt, positionText, room, upper}
-
--- the two ways in which the digits are put: the one digit, or a sixteenth's digits and then the last
-pub put-only-digit : {l m : List ℕ} {i j d : ℕ} (n : ℕ) → n < 16 → d ≡ upper (glyph n) → Put l i (d ∷ []) m j
-    → Put l i (map upper (numeral 16 16 n)) m j
-put-only-digit n below is p =
-    respelled (ap (λ (x : ℕ). x ∷ []) is ∙ sym (ap (λ (t : List ℕ). map upper t) (numeral-last 16 15 n below))) p
-
-pub put-last-digit : {l m o : List ℕ} {i j k d : ℕ} (n : ℕ) → 16 ≤ n → n < 2 ^ 64 → d ≡ upper (glyph (n % 16))
-    → Put l i (map upper (numeral 16 16 (n / 16))) m j → Put m j (d ∷ []) o k → Put l i (map upper (numeral 16 16 n)) o k
-put-last-digit n above below is p q =
-    respelled
-    (ap (λ (x : ℕ). map upper (numeral 16 16 (n / 16)) ++ (x ∷ [])) is
-    ∙ sym (ap (λ (t : List ℕ). map upper t) (numeral-step 16 14 n (omega arith) above (omega arith))
-    ∙ map-append upper (numeral 16 16 (n / 16)) (glyph (n % 16) ∷ [])))
-    (and-then p q)
 
 -- a line has at most 21 bytes more than its text
 pub length-line : (position : ℕ) (t : List ℕ) → length (lineAt position t) ≤ 21 + length t

@@ -18,11 +18,16 @@ pub fn put(out: &mut [u8], at: usize, position: Position) -> usize
 fn put_digits(out: &mut [u8], at: usize, n: u64) -> usize
     ensures { λ r. ⌜ Put (now (out .entry)) at (map upper (numeral 16 16 n)) (now (out .exit)) r ⌝ }
 {
-    if n < 16 {
-        return text::put_byte(out, at, digit(n));
+    let mut digits = [0u8; 16];
+    let mut first = 15;
+    digits[first] = digit(n % 16);
+    let mut rest = n / 16;
+    while 0 < rest {
+        first -= 1;
+        digits[first] = digit(rest % 16);
+        rest /= 16;
     }
-    let next = put_digits(out, at, n / 16);
-    text::put_byte(out, next, digit(n % 16))
+    text::put_bytes(out, at, &digits[first..])
 }
 
 // A digit's byte, `0` to `9` and then `A` to `F`.

@@ -1,12 +1,13 @@
 // Shows how the crate `text` is used from Rattle: texts put into buffers of many lengths at many places. Each line has the buffer, which
 // held dots before, between brackets, and the place that was given back.
 
-// What is put: a byte, a number of blanks, or a number, alone or with the width that it is padded to.
+// What is put: a byte, a number of blanks, a number, alone or with the width that it is padded to, or a position.
 enum Piece {
     Byte(u8),
     Blanks(usize),
     Decimal(u64),
     Hex(u64),
+    Position(u64),
     DecimalLeft(u64, usize),
     HexLeft(u64, usize),
     DecimalRight(u64, usize),
@@ -18,6 +19,7 @@ fn put(out: &mut [u8], at: usize, piece: Piece) -> usize {
         Piece::Blanks(n) => text::put_blanks(out, at, n),
         Piece::Decimal(n) => text_numbers::put_decimal(out, at, n),
         Piece::Hex(n) => text_numbers::put_hex(out, at, n),
+        Piece::Position(n) => listing_lines::position::put(out, at, scan_cdp::Position(n)),
         Piece::DecimalLeft(n, width) => text_numbers::put_decimal_left(out, at, n, width),
         Piece::HexLeft(n, width) => text_numbers::put_hex_left(out, at, n, width),
         Piece::DecimalRight(n, width) => text_numbers::put_decimal_right(out, at, n, width),
@@ -116,6 +118,53 @@ fn numbers() {
     case(4, 18446744073709551613, Piece::Hex(171));
 }
 
+// A number into a buffer that is just long enough for it, and into one that is a byte too short.
+fn just(length: usize, piece: Piece) {
+    case(length, 0, piece);
+    if 0 < length {
+        case(length - 1, 0, piece);
+    }
+}
+
+fn just_decimal() {
+    cases_show::text(b"decimal, in just enough room and in a byte less\n");
+    just(1, Piece::Decimal(0));
+    just(1, Piece::Decimal(9));
+    just(2, Piece::Decimal(10));
+    just(2, Piece::Decimal(99));
+    just(3, Piece::Decimal(100));
+    just(10, Piece::Decimal(4294967295));
+    just(10, Piece::Decimal(4294967296));
+    just(20, Piece::Decimal(10000000000000000000));
+    just(20, Piece::Decimal(18446744073709551615));
+}
+
+fn just_hexadecimal() {
+    cases_show::text(b"hexadecimal\n");
+    just(3, Piece::Hex(0));
+    just(3, Piece::Hex(15));
+    just(4, Piece::Hex(16));
+    just(4, Piece::Hex(255));
+    just(5, Piece::Hex(256));
+    just(10, Piece::Hex(4294967295));
+    just(11, Piece::Hex(4294967296));
+    just(18, Piece::Hex(1152921504606846976));
+    just(18, Piece::Hex(18446744073709551615));
+}
+
+fn just_positions() {
+    cases_show::text(b"a position\n");
+    just(3, Piece::Position(0));
+    just(3, Piece::Position(15));
+    just(4, Piece::Position(16));
+    just(4, Piece::Position(171));
+    just(5, Piece::Position(256));
+    just(10, Piece::Position(4294967295));
+    just(11, Piece::Position(4294967296));
+    just(18, Piece::Position(1152921504606846976));
+    just(18, Piece::Position(18446744073709551615));
+}
+
 fn columns() {
     cases_show::text(b"to the left\n");
     case(8, 1, Piece::DecimalLeft(42, 6));
@@ -141,5 +190,8 @@ fn columns() {
 fn main() {
     strings();
     numbers();
+    just_decimal();
+    just_hexadecimal();
+    just_positions();
     columns();
 }

@@ -3,7 +3,7 @@ use Prim.Native.Nat.{ℕ, zero, suc, _+_, _-_, _*_, _/_, _%_, _^_, _≤_, _<_, m
 use mathlib.Core.Bool.{Bool, true, false}
 use mathlib.Core.Path.{_≡_, ap, sym, _∙_, subst}
 use mathlib.Core.List.{List, [], _∷_, _++_}
-use native.Mathlib.Nat.{pow-zero, pow-suc, div-lt-iff-lt-mul}
+use native.Mathlib.Nat.{pow-zero, pow-suc, div-lt-iff-lt-mul, le-div-iff-mul-le, mod-eq-of-lt}
 use native.Mathlib.Omega.{arith}
 use borrow.Author.Tests.{le-ltb, lt-ltb}
 use lib.Dec.{ltb}
@@ -14,43 +14,37 @@ use Rattle.text.specs.Ascii.{ascii}
 use Rattle.text_numbers.specs.Numerals.{numeral, glyph, decimal, hex, left, right}
 
 -- the quotient of a number of one digit more
-quotient-below : (base k n : ℕ) → 0 < base → n < base ^ suc k → n / base < base ^ k
+pub quotient-below : (base k n : ℕ) → 0 < base → n < base ^ suc k → n / base < base ^ k
 quotient-below base k n pos h = div-lt-iff-lt-mul pos .1 (subst (λ (x : ℕ). n < x) (pow-suc base k) h)
 
 one-digit : (base n : ℕ) → n < base ^ 1 → n < base
 one-digit base n h =
     subst (λ (x : ℕ). n < x) (pow-suc base 0 ∙ omega (arith, ap (λ (x : ℕ). x * base) (pow-zero base))) h
 
--- room for more digits changes nothing
-more-room : (base k n : ℕ) → 0 < base → n < base ^ suc k → numeral base (suc (suc k)) n ≡ numeral base (suc k) n
-unfolding numeral
-more-room base zero n pos h =
-    let last = lt-ltb n base (one-digit base n h) in
-    on _ _ last ∙ sym (on _ _ last)
-more-room base (suc k) n pos h =
-    ap (λ (t : List ℕ). pick (ltb n base) (glyph n ∷ []) (t ++ (glyph (n % base) ∷ [])))
-    (more-room base k (n / base) pos (quotient-below base (suc k) n pos h))
-
 -- a number below the base is its digit
-pub numeral-last : (base k n : ℕ) → n < base → numeral base (suc k) n ≡ glyph n ∷ []
+numeral-only : (base k n : ℕ) → n < base → numeral base (suc k) n ≡ glyph n ∷ []
 unfolding numeral
-numeral-last base k n h = on _ _ (lt-ltb n base h)
+numeral-only base k n h = on _ _ (lt-ltb n base h)
+
+-- a number that has no quotient is its last digit
+pub numeral-last : (base k n : ℕ) → 0 < base → n / base ≡ 0 → numeral base (suc k) n ≡ glyph (n % base) ∷ []
+numeral-last base k n pos none =
+    let below : n < base = omega (arith, div-lt-iff-lt-mul {k = base} {x = n} {y = 1} pos .0 (omega (arith, none))) in
+    numeral-only base k n below ∙ ap (λ (d : ℕ). glyph d ∷ []) (sym (mod-eq-of-lt below))
 
 -- another is its quotient's numeral and its last digit
-pub numeral-step : (base k n : ℕ) → 0 < base → base ≤ n → n < base ^ suc (suc k)
-    → numeral base (suc (suc k)) n ≡ numeral base (suc (suc k)) (n / base) ++ (glyph (n % base) ∷ [])
+pub numeral-step : (base k n : ℕ) → 0 < base → 0 < n / base
+    → numeral base (suc k) n ≡ numeral base k (n / base) ++ (glyph (n % base) ∷ [])
 unfolding numeral
-numeral-step base k n pos above h =
-    off _ _ (le-ltb n base above)
-    ∙ ap (λ (t : List ℕ). t ++ (glyph (n % base) ∷ []))
-    (sym (more-room base k (n / base) pos (quotient-below base (suc k) n pos h)))
+numeral-step base k n pos some =
+    off _ _ (le-ltb n base (omega (arith, le-div-iff-mul-le {k = base} {x = 1} {y = n} pos .0 some)))
 
 -- a number below a power of the base has at most as many digits
 pub length-numeral : (base most k n : ℕ) → 0 < base → n < base ^ suc k → length (numeral base most n) ≤ suc k
 unfolding numeral
 length-numeral base zero k n pos h = omega arith
 length-numeral base (suc most) zero n pos h =
-    omega (arith, ap length (numeral-last base most n (one-digit base n h)))
+    omega (arith, ap length (numeral-only base most n (one-digit base n h)))
 length-numeral base (suc most) (suc k) n pos h =
     let ih = length-numeral base most k (n / base) pos (quotient-below base (suc k) n pos h) in
     go (ltb n base) ih

@@ -2,10 +2,12 @@
 ghost use mathlib.Core.Path.{_≡_};
 ghost use Prim.Native.Nat.{_-_, _<_};
 ghost use Rattle.text.specs.Put.{Put};
-ghost use Rattle.text_numbers.specs.Numerals.{decimal, glyph, hex, left, numeral, right};
+ghost use Rattle.text_numbers.specs.Numerals.{decimal, glyph, hex, left, right};
+use crate::hex_digits::put_hex_digits;
 use text::put_blanks;
-use text::put_byte;
 use text::put_bytes;
+
+mod hex_digits;
 
 // A digit's byte, `0` to `9` and then `a` to `f`.
 fn digit(d: u64) -> u8
@@ -19,15 +21,20 @@ fn digit(d: u64) -> u8
     }
 }
 
-// A number in decimal: the digits of its tenth, then its last digit.
+// A number in decimal. Its digits are filled in from the last one back, and put in one go: 20 places hold those of any number.
 pub fn put_decimal(out: &mut [u8], at: usize, n: u64) -> usize
     ensures { λ r. ⌜ Put (now (out .entry)) at (decimal n) (now (out .exit)) r ⌝ }
 {
-    if n < 10 {
-        return put_byte(out, at, digit(n));
+    let mut digits = [0u8; 20];
+    let mut first = 19;
+    digits[first] = digit(n % 10);
+    let mut rest = n / 10;
+    while 0 < rest {
+        first -= 1;
+        digits[first] = digit(rest % 10);
+        rest /= 10;
     }
-    let next = put_decimal(out, at, n / 10);
-    put_byte(out, next, digit(n % 10))
+    put_bytes(out, at, &digits[first..])
 }
 
 // A number in hexadecimal, in lower case and with `0x` in front.
@@ -36,16 +43,6 @@ pub fn put_hex(out: &mut [u8], at: usize, n: u64) -> usize
 {
     let next = put_bytes(out, at, b"0x");
     put_hex_digits(out, next, n)
-}
-
-fn put_hex_digits(out: &mut [u8], at: usize, n: u64) -> usize
-    ensures { λ r. ⌜ Put (now (out .entry)) at (numeral 16 16 n) (now (out .exit)) r ⌝ }
-{
-    if n < 16 {
-        return put_byte(out, at, digit(n));
-    }
-    let next = put_hex_digits(out, at, n / 16);
-    put_byte(out, next, digit(n % 16))
 }
 
 // A number in decimal, with blanks behind it up to the width: Rust's `{:<width}`.
