@@ -40,6 +40,7 @@ def shown(length: int, at: int, text: str, size: int) -> str:
 
 
 def piece_shown(length: int, at: int, piece: str, values: list[int]) -> str:
+    """The line for what is put: of blanks the size is their number, of all else the length of its text."""
     text = TEXTS[piece](*values)
     return shown(length, at, text, values[0] if piece == "Blanks" else len(text))
 

@@ -1,14 +1,11 @@
 -- Laws of the lines: how long a line and the last lines can be.
-use Prim.Native.Nat.{ℕ, _+_, _/_, _%_, _^_, _≤_, _<_}
-use mathlib.Core.Path.{_≡_, ap, sym, _∙_}
-use mathlib.Core.List.{List, [], _∷_, _++_, map, map-append}
+use Prim.Native.Nat.{ℕ, _+_, _≤_}
+use mathlib.Core.List.{List}
 use native.Mathlib.Omega.{arith}
 use lib.ListN.{length, length-append, length-map}
 use Rattle.text.specs.Ascii.{ascii}
-use Rattle.text_numbers.specs.Numerals.{decimal, glyph, numeral}
-use Rattle.text_numbers.specs.NumeralLaws.{numeral-last, numeral-room, numeral-step}
-use Rattle.text.specs.Put.{Put}
-use Rattle.text.specs.PutLaws.{and-then, respelled}
+use Rattle.text_numbers.specs.Numerals.{decimal, numeral}
+use Rattle.text_numbers.specs.NumeralLaws.{numeral-room}
 use Rattle.scan_cdp.specs.declared.Counts.{Counts}
 use Rattle.listing_lines.specs.Lines.{countLine, lastLines, lineAt, positionText, room, upper}
 

@@ -15,6 +15,7 @@ pub fn put(out: &mut [u8], at: usize, position: Position) -> usize
     put_digits(out, at, position.0)
 }
 
+// The digits, filled in from the last one back as those of `text_numbers` are.
 fn put_digits(out: &mut [u8], at: usize, n: u64) -> usize
     ensures { λ r. ⌜ Put (now (out .entry)) at (map upper (numeral 16 16 n)) (now (out .exit)) r ⌝ }
 {
