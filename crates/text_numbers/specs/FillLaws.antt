@@ -5,7 +5,7 @@ use mathlib.Core.List.{List, [], _∷_, _++_, map, map-append, append-assoc, app
 use native.Mathlib.Nat.{pow-zero}
 use native.Mathlib.Omega.{arith}
 use lib.ListN.{length, set, take, drop, length-set, length-drop}
-use lib.Seq.{drop-cons, drop-length, drop-set-lt, getD-set-same, take-all}
+use lib.Seq.{drop-cons, drop-set-lt, getD-set-same, take-all}
 use Rattle.text_numbers.specs.Numerals.{glyph, numeral}
 use Rattle.text_numbers.specs.NumeralLaws.{numeral-last, numeral-step, quotient-below}
 
@@ -18,43 +18,41 @@ pub record Filled (spell : ℕ → ℕ) (base most : ℕ) (t : List ℕ) (rest f
   pub whole : rest ≡ 0 → t ≡ drop first l
   pub others : 0 < rest → t ≡ map spell (numeral base first rest) ++ drop first l
 
--- a byte that is written in front of those behind it
+-- A number's last digit stands in front of `u`, what was there before, and its quotient is the rest.
+one-more : {t u l : List ℕ} {rest d : ℕ} (spell : ℕ → ℕ) (base most first n : ℕ) → 0 < base → length l ≡ most → first ≤ most
+    → n < base ^ suc first → drop first l ≡ d ∷ u → d ≡ spell (glyph (n % base)) → rest ≡ n / base
+    → t ≡ map spell (numeral base (suc first) n) ++ u → Filled spell base most t rest first l
+one-more {t} {u} {l} {rest} {d} spell base most first n pos size inside room stands is left so-far =
+    subst (λ (x : ℕ). Filled spell base most t x first l) (sym left)
+    (record {
+      size = size;
+      inside = inside;
+      room = quotient-below base first n pos room;
+      whole = λ none. so-far ∙ ap (λ (v : List ℕ). map spell v ++ u) (numeral-last base first n pos none) ∙ sym behind;
+      others = λ some.
+          so-far
+          ∙ ap (λ (v : List ℕ). map spell v ++ u) (numeral-step base first n pos some)
+          ∙ ap (λ (v : List ℕ). v ++ u) (map-append spell (numeral base first (n / base)) (glyph (n % base) ∷ []))
+          ∙ append-assoc (map spell (numeral base first (n / base))) (spell (glyph (n % base)) ∷ []) u
+          ∙ ap (λ (v : List ℕ). map spell (numeral base first (n / base)) ++ v) (sym behind);
+    })
+  where
+    behind : drop first l ≡ spell (glyph (n % base)) ∷ u
+    behind = stands ∙ ap (λ (x : ℕ). x ∷ u) is
+
+-- the last digit stands there alone
+pub last-filled : {t l : List ℕ} {rest first d : ℕ} (spell : ℕ → ℕ) (base most n : ℕ) → 0 < base → length l ≡ most → first ≤ most
+    → n < base ^ suc first → drop first l ≡ d ∷ [] → d ≡ spell (glyph (n % base)) → rest ≡ n / base
+    → t ≡ map spell (numeral base (suc first) n) → Filled spell base most t rest first l
+last-filled {first = first} spell base most n pos size inside room stands is left text =
+    one-more spell base most first n pos size inside room stands is left (text ∙ sym (append-nil _))
+
+-- a byte that is written in front of what is behind it
 drop-set : (l : List ℕ) (k d : ℕ) → k < length l → drop k (set l k d) ≡ d ∷ drop (suc k) l
 drop-set l k d h =
     drop-cons (set l k d) k d (omega (arith, length-set l k d))
     ∙ ap (λ (x : ℕ). x ∷ drop (suc k) (set l k d)) (getD-set-same l k d d h)
     ∙ ap (λ (u : List ℕ). d ∷ u) (drop-set-lt (suc k) l k d (omega arith))
-
--- A number's last digit goes in front of those that stand there, and its quotient is the rest.
-one-more : {t : List ℕ} {rest d : ℕ} (spell : ℕ → ℕ) (base most k n : ℕ) (l : List ℕ) → 0 < base → length l ≡ most → k < most
-    → n < base ^ suc k → d ≡ spell (glyph (n % base)) → rest ≡ n / base
-    → t ≡ map spell (numeral base (suc k) n) ++ drop (suc k) l → Filled spell base most t rest k (set l k d)
-one-more {t} {rest} {d} spell base most k n l pos size inside room is left so-far =
-    subst (λ (x : ℕ). Filled spell base most t x k (set l k d)) (sym left)
-    (record {
-      size = length-set l k d ∙ size;
-      inside = omega arith;
-      room = quotient-below base k n pos room;
-      whole = λ none. so-far ∙ ap (λ (u : List ℕ). map spell u ++ drop (suc k) l) (numeral-last base k n pos none) ∙ sym behind;
-      others = λ some.
-          so-far
-          ∙ ap (λ (u : List ℕ). map spell u ++ drop (suc k) l) (numeral-step base k n pos some)
-          ∙ ap (λ (u : List ℕ). u ++ drop (suc k) l) (map-append spell (numeral base k (n / base)) (glyph (n % base) ∷ []))
-          ∙ append-assoc (map spell (numeral base k (n / base))) (spell (glyph (n % base)) ∷ []) (drop (suc k) l)
-          ∙ ap (λ (u : List ℕ). map spell (numeral base k (n / base)) ++ u) (sym behind);
-    })
-  where
-    behind : drop k (set l k d) ≡ spell (glyph (n % base)) ∷ drop (suc k) l
-    behind = drop-set l k d (omega (arith, size)) ∙ ap (λ (x : ℕ). x ∷ drop (suc k) l) is
-
--- the last digit goes to the last place
-pub last-filled : {t : List ℕ} {rest d : ℕ} (spell : ℕ → ℕ) (base k n : ℕ) (l : List ℕ) → 0 < base → length l ≡ suc k
-    → n < base ^ suc k → d ≡ spell (glyph (n % base)) → rest ≡ n / base → t ≡ map spell (numeral base (suc k) n)
-    → Filled spell base (suc k) t rest k (set l k d)
-last-filled spell base k n l pos size room is left text =
-    let nothing : drop (suc k) l ≡ [] = ap (λ (i : ℕ). drop i l) (sym size) ∙ drop-length l in
-    one-more spell base (suc k) k n l pos size (omega arith) room is left
-    (text ∙ sym (append-nil _) ∙ ap (λ (u : List ℕ). map spell (numeral base (suc k) n) ++ u) (sym nothing))
 
 -- where there is a rest, there is a place in front
 pub place-left : {spell : ℕ → ℕ} {base most rest first : ℕ} {t l : List ℕ} → Filled spell base most t rest first l → 0 < rest
@@ -69,10 +67,11 @@ place-left {base = base} {rest = rest} {first = first} filled some = go first (f
 pub next-filled : {spell : ℕ → ℕ} {base most rest less first d : ℕ} {t l : List ℕ} → 0 < base
     → Filled spell base most t rest first l → 0 < rest → d ≡ spell (glyph (rest % base)) → less ≡ rest / base
     → Filled spell base most t less (first - 1) (set l (first - 1) d)
-next-filled {spell} {base} {most} {rest} {first = first} {l = l} pos filled some is left =
+next-filled {spell} {base} {most} {rest} {first = first} {d = d} {l = l} pos filled some is left =
     let here : first ≡ suc (first - 1) = omega (arith, place-left filled some) in
-    one-more spell base most (first - 1) rest l pos (filled .size) (omega (arith, here, filled .inside))
-    (subst (λ (i : ℕ). rest < base ^ i) here (filled .room)) is left
+    let in-front : first - 1 < most = omega (arith, here, filled .inside) in
+    one-more spell base most (first - 1) rest pos (length-set l (first - 1) d ∙ filled .size) (omega arith)
+    (subst (λ (i : ℕ). rest < base ^ i) here (filled .room)) (drop-set l (first - 1) d (omega (arith, filled .size))) is left
     (filled .others some ∙ ap (λ (i : ℕ). map spell (numeral base i rest) ++ drop i l) here)
 
 -- where there is none, what stands from `first` on is the text

@@ -3,7 +3,6 @@ use borrow.Author.Needs.{needs}
 use mathlib.Core.Path.{refl}
 use mathlib.Core.List.{map}
 use native.Mathlib.Omega.{arith}
-use lib.ListN.{replicate}
 use Rattle.text.specs.PutLaws.{respelled}
 use Rattle.text_numbers.specs.Numerals.{numeral}
 use Rattle.text_numbers.specs.FillLaws.{Filled, all-filled, last-filled, next-filled, place-left}
@@ -19,7 +18,7 @@ abbrev μ-loop : tie.MeasureT-loop
 
 loop-holds : tie.Need-loop-holds Inv-loop μ-loop
 loop-holds c =
-    last-filled upper 16 15 (c .before .before .args .n) (replicate 16 0) (omega arith) refl (omega arith)
+    last-filled upper 16 16 (c .before .before .args .n) (omega arith) refl (omega arith) (omega arith) refl
     (c .digit .ensures) (omega arith) refl
 
 loop-again : tie.Need-loop-again Inv-loop μ-loop

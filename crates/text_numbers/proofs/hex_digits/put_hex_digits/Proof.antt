@@ -4,7 +4,6 @@ use mathlib.Core.Path.{refl, sym}
 use mathlib.Core.List.{map-id}
 use Prim.Native.Nat.{ℕ}
 use native.Mathlib.Omega.{arith}
-use lib.ListN.{replicate}
 use Rattle.text.specs.PutLaws.{respelled}
 use Rattle.text_numbers.specs.Numerals.{numeral}
 use Rattle.text_numbers.specs.FillLaws.{Filled, all-filled, last-filled, next-filled, place-left}
@@ -19,7 +18,7 @@ abbrev μ-loop : tie.MeasureT-loop
 
 loop-holds : tie.Need-loop-holds Inv-loop μ-loop
 loop-holds c =
-    last-filled (λ (b : ℕ). b) 16 15 (c .before .before .args .n) (replicate 16 0) (omega arith) refl (omega arith)
+    last-filled (λ (b : ℕ). b) 16 16 (c .before .before .args .n) (omega arith) refl (omega arith) (omega arith) refl
     (c .digit .ensures) (omega arith) (sym (map-id _))
 
 loop-again : tie.Need-loop-again Inv-loop μ-loop
