@@ -2,9 +2,9 @@
 ghost use mathlib.Core.Path.{_≡_};
 ghost use Rattle.text.specs.Written.{overwritten, written};
 ghost use Rattle.trigger_stats.specs.Counters.{collected};
+ghost use Rattle.trigger_texts.specs.Mismatches.{mismatchText};
 ghost use Rattle.trigger_texts.specs.TriggerList.{listText};
 ghost use Rattle.doors_header_structs.specs.Plain.{plainWritten};
-ghost use Rattle.doors_triggers.specs.Replies.{ComparedThrough};
 use doors_header_structs::plain::PlainText;
 use doors_header_structs::plain::plain_text;
 use trigger_stats::TriggerStats;
@@ -26,14 +26,15 @@ pub extern "C" fn kesarimbu_trigger_list(counts: TriggerStats, out: &mut [u8]) -
     plain_text(trigger_list::display(counts, out))
 }
 
-// Writes a line for each count that is not the expected one.
+// Writes a line for each count that is not the expected one, in the order of the struct's fields.
 #[no_mangle]
 pub extern "C" fn kesarimbu_trigger_compare(
     counts: TriggerStats,
     expected: TriggerStats,
     out: &mut [u8],
 ) -> PlainText
-    ensures { λ r. ⌜ ComparedThrough counts expected (now (out .entry)) r (now (out .exit)) ⌝ }
+    ensures answer { λ r. ⌜ r ≡ plainWritten (written (mismatchText counts expected) (now (out .entry))) ⌝ }
+    ensures left { λ _. ⌜ now (out .exit) ≡ overwritten (mismatchText counts expected) (now (out .entry)) ⌝ }
 {
     plain_text(trigger_compare::validate_other(counts, expected, out))
 }

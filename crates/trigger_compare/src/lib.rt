@@ -2,16 +2,13 @@
 use text::Written;
 use trigger_stats::COUNTERS;
 use trigger_stats::TriggerStats;
-ghost use mathlib.Core.List.{[]};
 ghost use Prim.Native.Nat.{_<_};
-ghost use lib.Dec.{eqb};
-ghost use Rattle.basis.specs.Pick.{pick};
 ghost use Rattle.text.specs.Ascii.{ascii};
 ghost use Rattle.text.specs.Put.{Put};
-ghost use Rattle.text.specs.Written.{Needed};
-ghost use Rattle.trigger_stats.specs.Counters.{counterAt, counters};
-ghost use Rattle.trigger_texts.specs.CounterOrder.{inOrder};
-ghost use Rattle.trigger_texts.specs.Mismatches.{Compares, mismatchIfAny, mismatchOf, name};
+ghost use Rattle.text.specs.Written.{Needed, Writes};
+ghost use Rattle.trigger_stats.specs.Counters.{counterAt};
+ghost use Rattle.trigger_texts.specs.Mismatches.{mismatchText, name};
+ghost use Rattle.trigger_texts.specs.MismatchesLaws.{mismatchIfAny};
 
 // The length of the longest comparison, with ten digits in every number.
 const LONGEST_COMPARISON: usize = 1058;
@@ -64,10 +61,10 @@ const NAME_LENGTHS: [usize; COUNTERS] = [
     3,
 ];
 
-// Writes a line for each count that differs from that of `other`, which is the expected one. Equal statistics give the empty
-// text, which fits any buffer.
+// Writes a line for each count that differs from that of `other`, which is the expected one, in the order of the fields. Equal
+// statistics give the empty text, which fits any buffer.
 pub fn validate_other(stats: TriggerStats, other: TriggerStats, out: &mut [u8]) -> Written
-    ensures { λ r. ⌜ Compares stats other (now (out .entry)) r (now (out .exit)) ⌝ }
+    ensures { λ r. ⌜ Writes (mismatchText stats other) (now (out .entry)) r (now (out .exit)) ⌝ }
 {
     let need = needed(stats, other, out.len());
     if out.len() < need {
@@ -78,7 +75,7 @@ pub fn validate_other(stats: TriggerStats, other: TriggerStats, out: &mut [u8]) 
 
 // The length that the comparison needs, or 0 where any comparison fits the room.
 fn needed(stats: TriggerStats, other: TriggerStats, room: usize) -> usize
-    ensures { λ r. ⌜ Needed (inOrder (mismatchIfAny stats other) counters) room r ⌝ }
+    ensures { λ r. ⌜ Needed (mismatchText stats other) room r ⌝ }
 {
     if LONGEST_COMPARISON <= room {
         return 0;
@@ -87,9 +84,9 @@ fn needed(stats: TriggerStats, other: TriggerStats, room: usize) -> usize
     put_mismatches(stats, other, &mut none, 0)
 }
 
-// The lines of a comparison, in the order of the fields, as the Rust has them.
+// The lines of a comparison, in the order of the fields.
 fn put_mismatches(stats: TriggerStats, other: TriggerStats, out: &mut [u8], at: usize) -> usize
-    ensures { λ r. ⌜ Put (now (out .entry)) at (inOrder (mismatchIfAny stats other) counters) (now (out .exit)) r ⌝ }
+    ensures { λ r. ⌜ Put (now (out .entry)) at (mismatchText stats other) (now (out .exit)) r ⌝ }
 {
     let got = stats.counts();
     let expected = other.counts();
@@ -105,7 +102,7 @@ fn put_mismatches(stats: TriggerStats, other: TriggerStats, out: &mut [u8], at: 
 // The line of counter `k` in a comparison, or nothing where the two counts are equal.
 fn put_mismatch(out: &mut [u8], at: usize, k: usize, expected: u32, got: u32) -> usize
     requires { ⌜ k < 20 ⌝ }
-    ensures { λ r. ⌜ Put (now (out .entry)) at (pick (eqb got expected) [] (mismatchOf (ascii (name (counterAt k))) expected got)) (now (out .exit)) r ⌝ }
+    ensures { λ r. ⌜ Put (now (out .entry)) at (mismatchIfAny (ascii (name (counterAt k))) expected got) (now (out .exit)) r ⌝ }
 {
     if got == expected {
         return at;

@@ -4,6 +4,7 @@ use Rattle.rdh.specs.declared.rdh_cru.RdhCru.{RdhCru}
 use Rattle.rdh_row.specs.Row.{rowText}
 use Rattle.text.specs.Written.{overwritten, written}
 use Rattle.doors_header_structs.specs.Plain.{plainWritten}
+use Rattle.doors_header_structs.specs.PlainLaws.{told}
 use borrow.Author.Needs.{needs}
 use Rattle.doors_header.proofs.kesarimbu_row.Statement.{statement}
 use Rattle.doors_header.proofs.kesarimbu_row.Tie as tie
@@ -25,10 +26,10 @@ returns c =
     let call = c .before .before .before in
     let asked = call .before .before in
     let out = asked .before .before .args .out .now in
-    let made = call .row .ensures in
+    let made = told (c .plain-text .ensures) (call .row .ensures) in
     let header = asked .header-of .ensures in (
-      c .plain-text .ensures ∙ ap plainWritten (made .reply) ∙ ap (λ (h : RdhCru). plainWritten (written (rowText h) out)) header,
-      made .leaves ∙ ap (λ (h : RdhCru). overwritten (rowText h) out) header,
+      made .0 ∙ ap (λ (h : RdhCru). plainWritten (written (rowText h) out)) header,
+      made .1 ∙ ap (λ (h : RdhCru). overwritten (rowText h) out) header,
     )
 
 pub kesarimbu-row-spec : {M : Type 1} → statement M

@@ -1,7 +1,6 @@
 -- The list's reply, as C's struct.
-use mathlib.Core.Path.{ap, _∙_}
-use Rattle.doors_header_structs.specs.Plain.{plainWritten}
 use borrow.Author.Needs.{needs}
+use Rattle.doors_header_structs.specs.PlainLaws.{told}
 use Rattle.doors_triggers.proofs.kesarimbu_trigger_list.Statement.{statement}
 use Rattle.doors_triggers.proofs.kesarimbu_trigger_list.Tie as tie
 
@@ -9,9 +8,7 @@ same-length : tie.Need-same-length
 same-length c = search needs
 
 returns : tie.Need-returns
-returns c =
-    let made = c .before .before .before .display .ensures in
-    (c .plain-text .ensures ∙ ap plainWritten (made .reply), made .leaves)
+returns c = told (c .plain-text .ensures) (c .before .before .before .display .ensures)
 
 pub kesarimbu-trigger-list-spec : {M : Type 1} → statement M
 kesarimbu-trigger-list-spec = tie.close (tie.spec (λ c κs. tt) (λ c κs. tt) same-length returns)

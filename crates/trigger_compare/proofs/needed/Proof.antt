@@ -5,15 +5,13 @@ use native.Mathlib.Omega.{arith}
 use lib.ListN.{length}
 use Rattle.text.specs.WrittenLaws.{by-measure, holds-longest}
 use Rattle.trigger_stats.proofs.Ranges.{in-range}
-use Rattle.trigger_stats.specs.Counters.{counters}
-use Rattle.trigger_texts.specs.CounterOrder.{inOrder}
-use Rattle.trigger_texts.specs.Mismatches.{mismatchIfAny}
-use Rattle.trigger_texts.specs.MismatchesLaws.{longest-lines}
+use Rattle.trigger_texts.specs.Mismatches.{mismatchText}
+use Rattle.trigger_texts.specs.MismatchesLaws.{longest-comparison}
 use Rattle.trigger_compare.proofs.needed.Statement.{statement}
 use Rattle.trigger_compare.proofs.needed.Tie as tie
 
-longest : (c : tie.Start) → length (inOrder (mismatchIfAny (c .args .stats) (c .args .other)) counters) ≤ 1058
-longest c = longest-lines _ _ (in-range _ _ (c .good .0)) (in-range _ _ (c .good .1 .0))
+longest : (c : tie.Start) → length (mismatchText (c .args .stats) (c .args .other)) ≤ 1058
+longest c = longest-comparison _ _ (in-range _ _ (c .good .0)) (in-range _ _ (c .good .1 .0))
 
 returns : tie.Need-returns
 returns c = holds-longest (longest (c .before)) (c .if1 .taken)

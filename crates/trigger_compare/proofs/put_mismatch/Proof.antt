@@ -6,14 +6,18 @@ use Rattle.basis.specs.PickLaws.{off, on}
 use Rattle.text.specs.PutLaws.{and-then, put-nothing, respelled}
 use Rattle.text.specs.PutLaws.{same-length as kept-length}
 use Rattle.trigger_texts.specs.Mismatches.{mismatchOf}
+use Rattle.trigger_texts.specs.MismatchesLaws.{mismatchIfAny}
 use Rattle.trigger_compare.proofs.put_mismatch.Statement.{statement}
 use Rattle.trigger_compare.proofs.put_mismatch.Tie as tie
 
 returns : tie.Need-returns
-returns c = respelled (sym (on _ _ (eq-eqb _ _ (c .if1 .taken)))) (put-nothing _ _ (omega arith) (omega arith))
+unfolding mismatchIfAny
+returns c =
+    let args = c .before .before .args in
+    respelled (sym (on _ _ (eq-eqb (args .got) (args .expected) (omega arith)))) (put-nothing _ _ (omega arith) (omega arith))
 
 returns-2 : tie.Need-returns-2
-unfolding mismatchOf
+unfolding mismatchIfAny mismatchOf
 returns-2 c =
     let feed = c .before .before in
     let got = feed .before .before .before .before in
@@ -21,7 +25,8 @@ returns-2 c =
     let expected = got-text .before .before .before .before .before in
     let expected-text = expected .before .before .before .before in
     let field = expected-text .before .before .before .before .before in
-    respelled (sym (off _ _ (ne-eqb _ _ (field .before .before .if1 .left))))
+    let args = field .before .before .before .before .args in
+    respelled (sym (off _ _ (ne-eqb (args .got) (args .expected) (λ same. omega arith))))
     (and-then
     (and-then
     (and-then

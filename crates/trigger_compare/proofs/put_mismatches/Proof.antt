@@ -1,13 +1,11 @@
 -- Each turn puts the mismatch of the next counter, if there is one, behind those of the ones before. As in `put_list`, the invariant
 -- speaks of any statistics that the arrays are made of.
-use Prim.Native.Nat.{ℕ, _-_, _≤_}
-use mathlib.Core.Path.{_≡_, ap, ap₂, _∙_}
-use mathlib.Core.List.{[], map}
+use Prim.Native.Nat.{_-_, _≤_}
+use mathlib.Core.Path.{_≡_, ap, ap₂, sym, _∙_}
+use mathlib.Core.List.{map}
 use native.Mathlib.Omega.{arith}
-use lib.Dec.{eqb}
 use lib.ListN.{getD, take}
 use lib.Seq.{take-all}
-use Rattle.basis.specs.Pick.{pick}
 use Rattle.text.specs.Ascii.{ascii}
 use Rattle.text.specs.Put.{Put}
 use Rattle.text.specs.PutLaws.{put-nothing, respelled}
@@ -16,7 +14,8 @@ use Rattle.trigger_stats.specs.declared.TriggerStats.{TriggerStats}
 use Rattle.trigger_stats.specs.Counters.{count, counterAt, counters}
 use Rattle.trigger_texts.specs.CounterOrder.{inOrder}
 use Rattle.trigger_texts.specs.CounterOrderLaws.{next-one}
-use Rattle.trigger_texts.specs.Mismatches.{mismatch, mismatchIfAny, mismatchOf, name}
+use Rattle.trigger_texts.specs.Mismatches.{name}
+use Rattle.trigger_texts.specs.MismatchesLaws.{by-counter, mismatchIfAny, counterMismatch}
 use Rattle.trigger_texts.specs.TableLaws.{number-at}
 use Rattle.trigger_compare.proofs.put_mismatches.Statement.{statement}
 use Rattle.trigger_compare.proofs.put_mismatches.Tie as tie
@@ -25,7 +24,7 @@ abbrev Inv-loop : tie.InvT-loop
 Inv-loop out₀ at got expected next₀ k₀ out next k =
     (k ≤ 20)
     × ((s o : TriggerStats) → got ≡ map (λ j. count j s) counters → expected ≡ map (λ j. count j o) counters
-    → Put out₀ next₀ (inOrder (mismatchIfAny s o) (take k counters)) out next)
+    → Put out₀ next₀ (inOrder (counterMismatch s o) (take k counters)) out next)
 
 abbrev μ-loop : tie.MeasureT-loop
 μ-loop out₀ at got expected next₀ k₀ out next k = 20 - k
@@ -53,15 +52,14 @@ loop-less : tie.Need-loop-less Inv-loop μ-loop
 loop-less c = omega arith
 
 loop-again : tie.Need-loop-again Inv-loop μ-loop
-unfolding mismatch mismatchIfAny
 loop-again c =
     let turn = c .before .before .before .before .before in
     let k = turn .loop .field in (
       omega arith,
       λ s o e f.
-          next-one (mismatchIfAny s o) k (omega arith) (turn .loop .inv .1 s o e f)
+          next-one (counterMismatch s o) k (omega arith) (turn .loop .inv .1 s o e f)
           (respelled
-          (ap₂ (λ (x : ℕ) (y : ℕ). pick (eqb y x) [] (mismatchOf (ascii (name (counterAt k))) x y))
+          (ap₂ (mismatchIfAny (ascii (name (counterAt k))))
           (ap (λ l. getD l k 0) f ∙ number-at (λ j. count j o) k (omega arith))
           (ap (λ l. getD l k 0) e ∙ number-at (λ j. count j s) k (omega arith)))
           (c .before .before .put-mismatch .ensures)),
@@ -72,7 +70,8 @@ returns c =
     let others = c .before .before in
     let own = others .before in
     let args = own .before .before .args in
-    respelled (ap (λ ks. inOrder (mismatchIfAny (args .stats) (args .other)) ks) (take-all (c .before .loop .field) counters (c .loop-test .left)))
+    let all = take-all (c .before .loop .field) counters (omega arith) in
+    respelled (ap (inOrder (counterMismatch (args .stats) (args .other))) all ∙ sym (by-counter (args .stats) (args .other)))
     (c .before .loop .inv .1 (args .stats) (args .other) (own .counts .ensures) (others .counts2 .ensures))
 
 pub put-mismatches-spec : {M : Type 1} → statement M
