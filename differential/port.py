@@ -58,7 +58,9 @@ def text_lines(ask, length, told):
 
 
 def lines_in(text):
-    return text.removesuffix("\n").split("\n") if text else []
+    """The lines of a text in which each has its line feed; the rest of one that does not end with it is told as no line is."""
+    *lines, rest = text.split("\n")
+    return [*lines, f"no line feed after {rest}"] if rest else lines
 
 
 # Replies of the scan.

@@ -150,7 +150,9 @@ static void verdicts(void)
 static void triggers(void)
 {
     static const uint32_t words[] = {0x4813, 0x80000001};
-    static const char lines[] = "orbit mismatch! expected: 0, got: 2\n";
+    static const char lines[] = "orbit mismatch! expected: 0, got: 2\n"
+                                "hb mismatch! expected: 3, got: 1\n"
+                                "tof mismatch! expected: 0, got: 1\n";
     struct kesarimbu_trigger_counts none = {0}, c = kesarimbu_count_triggers(none, words, 2);
     uint8_t out[TEXT];
     CHECK(c.orbit == 2 && c.hb == 1 && c.hbr == 0 && c.pht == 1 && c.tf == 1 && c.rs == 1 && c.tof == 1 && c.tpc_rst == 0);
@@ -158,9 +160,11 @@ static void triggers(void)
     CHECK(t.refusal == 0 && memcmp(out, "Trigger statistics:\n  Orbit:         2\n", 39) == 0);
     CHECK(kesarimbu_trigger_list(c, out, 3).refusal == KESARIMBU_BUFFER_TOO_SHORT);
     struct kesarimbu_trigger_counts other = c;
+    other.tof = 0;
+    other.hb = 3;
     other.orbit = 0;
     t = kesarimbu_trigger_compare(c, other, out, sizeof out);
-    CHECK(t.refusal == 0 && starts_with(out, t.length, lines));
+    CHECK(t.refusal == 0 && t.length == strlen(lines) && memcmp(out, lines, t.length) == 0);
     CHECK(kesarimbu_trigger_compare(c, c, out, 0).length == 0);
     CHECK(kesarimbu_trigger_compare(c, other, out, 3).length == strlen(lines));
 }

@@ -295,7 +295,7 @@ struct kesarimbu_trigger_counts kesarimbu_count_triggers(struct kesarimbu_trigge
 /* The list of the counts: 480 bytes are always enough. */
 struct kesarimbu_text kesarimbu_trigger_list(struct kesarimbu_trigger_counts counts, uint8_t *out, size_t length);
 
-/* A line for each count that differs from that of `expected`, in an order that is not fixed: 1,058 bytes are always enough. */
+/* A line for each count that differs from that of `expected`, in the order of the struct's fields: 1,058 bytes are always enough. */
 struct kesarimbu_text kesarimbu_trigger_compare(struct kesarimbu_trigger_counts counts, struct kesarimbu_trigger_counts expected,
                                                 uint8_t *out, size_t length);
 

@@ -74,9 +74,12 @@ def trigger_list(counts: TriggerCounts, out: Writable | None = None) -> str:
 
 
 def trigger_compare(counts: TriggerCounts, expected: TriggerCounts, out: Writable | None = None) -> str:
-    """A line for each count that differs from the expected one, in an order that is not fixed; empty if none does. With `out` it is also
+    """A line for each count that differs from the expected one, in the order of the fields; empty if none does. With `out` it is also
     written at its start; refusal 7 if `out` is too short.
 
+    >>> print(trigger_compare(TriggerCounts(tof=1, hb=3, orbit=2), TriggerCounts(hb=3)), end="")
+    orbit mismatch! expected: 0, got: 2
+    tof mismatch! expected: 0, got: 1
     >>> trigger_compare(TriggerCounts(hb=3), TriggerCounts(hb=3))
     ''
     """

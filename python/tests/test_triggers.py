@@ -1,14 +1,18 @@
 """Trigger words counted, and the texts of the counts: lists and comparisons."""
 import unittest
 from array import array
-from dataclasses import astuple, fields
+from dataclasses import astuple
+from itertools import combinations
 
 import kesarimbu
 from kesarimbu import Refused, TriggerCounts
 
 FULL = 0xFFFFFFFF
-# The bit of each count, in the order of the counts, and its name in a list. Bits 15 to 26 are spare.
+# The bit of each count, in the order of the counts, its name in a comparison, as the Rust's struct has its fields, and its name in a list.
+# Bits 15 to 26 are spare.
 BITS = [*range(15), *range(27, 32)]
+FIELDS = ["orbit", "hb", "hbr", "hc", "pht", "pp", "cal", "sot", "eot", "soc", "eoc", "tf", "fe_rst", "rt", "rs", "lhc_gap1", "lhc_gap2",
+          "tpc_sync", "tpc_rst", "tof"]
 NAMES = ["Orbit", "HB", "HBr", "HC", "PhT", "PP", "CAL", "SOT", "EOT", "SOC", "EOC", "TF", "FE_rst", "RT", "RS", "LHC_gap1", "LHC_gap2",
          "TPC_sync", "TPC_rst", "TOF"]
 # A count of its own in each field, from one digit to ten.
@@ -130,22 +134,39 @@ class Lists(Texts):
 
 class Comparisons(Texts):
     def compared(self, counts, expected, length, *lines):
-        """The text is these lines in any order."""
-        text = kesarimbu.trigger_compare(counts, expected)
-        self.assertEqual(sorted(text.splitlines(keepends=True)), sorted(lines))
+        """The text is these lines, in this order."""
+        text = "".join(lines)
+        self.assertEqual(kesarimbu.trigger_compare(counts, expected), text)
         self.written(lambda buffer: kesarimbu.trigger_compare(counts, expected, buffer), length, text)
 
     def test_each_bit_alone(self):
         """A word with one bit, compared with no word. A spare bit counts nothing, so there is no difference."""
-        names = [field.name for field in fields(TriggerCounts)]
         for bit in range(32):
             with self.subTest(bit=bit):
-                lines = [mismatch(names[BITS.index(bit)], 0, 1)] if bit in BITS else []
+                lines = [mismatch(FIELDS[BITS.index(bit)], 0, 1)] if bit in BITS else []
                 self.compared(with_word(0, 1 << bit), alike(0), 44, *lines)
 
     def test_equal(self):
         self.compared(alike(0), alike(0), 0)
         self.compared(ORDINARY, ORDINARY, 3)
+
+    def test_each_pair_of_counts(self):
+        """Two counts that differ: the line of the field that comes first stands first, whichever count was raised first."""
+        for first, second in combinations(FIELDS, 2):
+            with self.subTest(first=first, second=second):
+                lines = mismatch(first, 0, 2), mismatch(second, 0, 1)
+                self.compared(TriggerCounts(**{second: 1, first: 2}), alike(0), 80, *lines)
+
+    def test_bits_counted_in_reverse(self):
+        """The order is the fields', not that of the words counted."""
+        counts = kesarimbu.count_triggers(TriggerCounts(), [1 << bit for bit in reversed(BITS)])
+        self.compared(counts, alike(0), 700, *[mismatch(name, 0, 1) for name in FIELDS])
+
+    def test_every_other_count(self):
+        """Counts that are equal leave no gap, and the order of the rest stays."""
+        for start in (0, 1):
+            chosen = FIELDS[start::2]
+            self.compared(TriggerCounts(**dict.fromkeys(chosen, 7)), alike(0), 400, *[mismatch(name, 0, 7) for name in chosen])
 
     def test_expected_is_the_others_count(self):
         self.compared(with_word(7, 8), alike(7), 36, "hc mismatch! expected: 7, got: 8\n")
@@ -159,14 +180,13 @@ class Comparisons(Texts):
             self.compared(with_word(9, 0x1000), alike(9), length, line)
 
     def test_all_counts_differ(self):
-        lines = [mismatch(name, 1, count) for name, count in ORDINARY.__dict__.items()]
+        lines = [mismatch(name, 1, getattr(ORDINARY, name)) for name in FIELDS]
         self.assertEqual(len("".join(lines)), 760)
         self.compared(ORDINARY, alike(1), 800, *lines)
 
     def test_the_longest(self):
-        names = [field.name for field in fields(TriggerCounts)]
         for counts, expected, lengths in [(FULL, FULL - 1, [1057, 1058]), (FULL - 1, FULL, [1063])]:
-            lines = [mismatch(name, expected, counts) for name in names]
+            lines = [mismatch(name, expected, counts) for name in FIELDS]
             self.assertEqual(len("".join(lines)), 1058)
             for length in lengths:
                 self.compared(alike(counts), alike(expected), length, *lines)
