@@ -7,8 +7,8 @@ ghost use Rattle.text.specs.Ascii.{ascii};
 ghost use Rattle.text.specs.Put.{Put};
 ghost use Rattle.text.specs.Written.{Needed, Writes};
 ghost use Rattle.trigger_stats.specs.Counters.{counterAt};
+ghost use Rattle.trigger_texts.specs.FieldMismatches.{mismatchIfAny};
 ghost use Rattle.trigger_texts.specs.Mismatches.{mismatchText, name};
-ghost use Rattle.trigger_texts.specs.MismatchesLaws.{mismatchIfAny};
 
 // The length of the longest comparison, with ten digits in every number.
 const LONGEST_COMPARISON: usize = 1058;

@@ -17,35 +17,31 @@ use Rattle.trigger_stats.specs.Counters.{Counter, InRange, count, counters}
 use Rattle.trigger_stats.specs.CountersLaws.{same-counts}
 use Rattle.trigger_texts.specs.CounterOrder.{inOrder}
 use Rattle.trigger_texts.specs.CounterOrderLaws.{in-order-unless, total, total-below, one-of-total, length-in-order}
+use Rattle.trigger_texts.specs.FieldMismatches.{counterMismatch, mismatchIfAny}
 use Rattle.trigger_texts.specs.Mismatches.{differing, mismatch, mismatchOf, mismatchText, name}
 
--- What the functions that write the text put for a field: its line, or nothing where the counts are equal.
-unfoldable pub mismatchIfAny : List ℕ → ℕ → ℕ → List ℕ
-mismatchIfAny field expected got = pick (eqb got expected) [] (mismatchOf field expected got)
-
 module _ (self other : TriggerStats) where
-  -- And for a counter.
-  abbrev pub counterMismatch : Counter → List ℕ
-  counterMismatch k = mismatchIfAny (ascii (name k)) (count k other) (count k self)
+  abbrev each : Counter → List ℕ
+  each = counterMismatch self other
 
-  lines-differing : (ks : List Counter) → inOrder (mismatch self other) (differing self other ks) ≡ inOrder counterMismatch ks
+  lines-differing : (ks : List Counter) → inOrder (mismatch self other) (differing self other ks) ≡ inOrder each ks
   unfolding differing inOrder mismatch mismatchIfAny
   lines-differing [] = refl
   lines-differing (k ∷ ks) =
       in-order-unless (mismatch self other) (eqb (count k self) (count k other)) k (differing self other ks)
-      ∙ ap (λ (t : List ℕ). counterMismatch k ++ t) (lines-differing ks)
+      ∙ ap (λ (t : List ℕ). each k ++ t) (lines-differing ks)
 
   -- the lines of the counters that differ are what is put for each counter in turn
-  pub by-counter : mismatchText self other ≡ inOrder counterMismatch counters
+  pub by-counter : mismatchText self other ≡ inOrder (counterMismatch self other) counters
   unfolding mismatchText
   by-counter = lines-differing counters
 
-  length-mismatches : length (mismatchText self other) ≡ total (λ k. length (counterMismatch k)) counters
-  length-mismatches = ap length by-counter ∙ length-in-order counterMismatch counters
+  length-mismatches : length (mismatchText self other) ≡ total (λ k. length (each k)) counters
+  length-mismatches = ap length by-counter ∙ length-in-order each counters
 
   -- ---- the longest
 
-  length-of-counter : InRange self → InRange other → (k : Counter) → length (counterMismatch k) ≤ length (ascii (name k)) + 49
+  length-of-counter : InRange self → InRange other → (k : Counter) → length (each k) ≤ length (ascii (name k)) + 49
   unfolding mismatchIfAny mismatchOf
   length-of-counter fits fits-other k = go (eqb (count k self) (count k other))
     where
@@ -66,7 +62,7 @@ module _ (self other : TriggerStats) where
   -- ---- no text
 
   -- a counter without a line has equal counts
-  no-line : (k : Counter) → length (counterMismatch k) ≡ 0 → count k self ≡ count k other
+  no-line : (k : Counter) → length (each k) ≡ 0 → count k self ≡ count k other
   unfolding mismatchIfAny mismatchOf
   no-line k none = go (eqb (count k self) (count k other)) refl none
     where
@@ -82,7 +78,7 @@ module _ (self other : TriggerStats) where
   pub silent-equal : mismatchText self other ≡ [] → self ≡ other
   silent-equal silent =
       same-counts self other (λ k.
-      no-line k (omega (arith, one-of-total (λ j. length (counterMismatch j)) k, length-mismatches, ap length silent)))
+      no-line k (omega (arith, one-of-total (λ j. length (each j)) k, length-mismatches, ap length silent)))
 
 -- equal statistics write nothing
 pub equal-silent : (s : TriggerStats) → mismatchText s s ≡ []

@@ -5,8 +5,8 @@ use borrow.Author.Tests.{eq-eqb, ne-eqb}
 use Rattle.basis.specs.PickLaws.{off, on}
 use Rattle.text.specs.PutLaws.{and-then, put-nothing, respelled}
 use Rattle.text.specs.PutLaws.{same-length as kept-length}
+use Rattle.trigger_texts.specs.FieldMismatches.{mismatchIfAny}
 use Rattle.trigger_texts.specs.Mismatches.{mismatchOf}
-use Rattle.trigger_texts.specs.MismatchesLaws.{mismatchIfAny}
 use Rattle.trigger_compare.proofs.put_mismatch.Statement.{statement}
 use Rattle.trigger_compare.proofs.put_mismatch.Tie as tie
 

@@ -14,8 +14,9 @@ use Rattle.trigger_stats.specs.declared.TriggerStats.{TriggerStats}
 use Rattle.trigger_stats.specs.Counters.{count, counterAt, counters}
 use Rattle.trigger_texts.specs.CounterOrder.{inOrder}
 use Rattle.trigger_texts.specs.CounterOrderLaws.{next-one}
+use Rattle.trigger_texts.specs.FieldMismatches.{counterMismatch, mismatchIfAny}
 use Rattle.trigger_texts.specs.Mismatches.{name}
-use Rattle.trigger_texts.specs.MismatchesLaws.{by-counter, mismatchIfAny, counterMismatch}
+use Rattle.trigger_texts.specs.MismatchesLaws.{by-counter}
 use Rattle.trigger_texts.specs.TableLaws.{number-at}
 use Rattle.trigger_compare.proofs.put_mismatches.Statement.{statement}
 use Rattle.trigger_compare.proofs.put_mismatches.Tie as tie
