@@ -1,8 +1,8 @@
 -- Each turn puts the mismatch of the next counter, if there is one, behind those of the ones before. As in `put_list`, the invariant
 -- speaks of any statistics that the arrays are made of.
-use Prim.Native.Nat.{_-_, _≤_}
-use mathlib.Core.Path.{_≡_, ap, ap₂, sym, _∙_}
-use mathlib.Core.List.{map}
+use Prim.Native.Nat.{ℕ, _-_, _≤_}
+use mathlib.Core.Path.{_≡_, refl, ap, ap₂, sym, _∙_}
+use mathlib.Core.List.{List, map}
 use native.Mathlib.Omega.{arith}
 use lib.ListN.{getD, take}
 use lib.Seq.{take-all}
@@ -11,7 +11,7 @@ use Rattle.text.specs.Put.{Put}
 use Rattle.text.specs.PutLaws.{put-nothing, respelled}
 use Rattle.text.specs.PutLaws.{same-length as kept-length}
 use Rattle.trigger_stats.specs.declared.TriggerStats.{TriggerStats}
-use Rattle.trigger_stats.specs.Counters.{count, counterAt, counters}
+use Rattle.trigger_stats.specs.Counters.{Counter, count, counterAt, counters}
 use Rattle.trigger_texts.specs.CounterOrder.{inOrder}
 use Rattle.trigger_texts.specs.CounterOrderLaws.{next-one}
 use Rattle.trigger_texts.specs.FieldMismatches.{counterMismatch, mismatchIfAny}
@@ -52,18 +52,24 @@ add-field c = omega arith
 loop-less : tie.Need-loop-less Inv-loop μ-loop
 loop-less c = omega arith
 
+-- what is put with a counter's name and its two counts is what is put for that counter
+of-counter : {l m : List ℕ} {i j expected got : ℕ} {named : Counter} (s o : TriggerStats) (k : Counter)
+    → Put l i (mismatchIfAny (ascii (name named)) expected got) m j → named ≡ k → expected ≡ count k o → got ≡ count k s
+    → Put l i (counterMismatch s o k) m j
+of-counter {expected = expected} {got = got} s o k p here other self =
+    respelled
+    (ap (λ (n : Counter). mismatchIfAny (ascii (name n)) expected got) here ∙ ap₂ (mismatchIfAny (ascii (name k))) other self) p
+
 loop-again : tie.Need-loop-again Inv-loop μ-loop
 loop-again c =
     let turn = c .before .before .before .before .before in
     let k = turn .loop .field in (
       omega arith,
       λ s o e f.
+          let self = ap (λ l. getD l k 0) e ∙ number-at (λ j. count j s) k (omega arith) in
+          let other = ap (λ l. getD l k 0) f ∙ number-at (λ j. count j o) k (omega arith) in
           next-one (counterMismatch s o) k (omega arith) (turn .loop .inv .1 s o e f)
-          (respelled
-          (ap₂ (mismatchIfAny (ascii (name (counterAt k))))
-          (ap (λ l. getD l k 0) f ∙ number-at (λ j. count j o) k (omega arith))
-          (ap (λ l. getD l k 0) e ∙ number-at (λ j. count j s) k (omega arith)))
-          (c .before .before .put-mismatch .ensures)),
+          (of-counter s o (counterAt k) (c .before .before .put-mismatch .ensures) refl other self),
     )
 
 returns : tie.Need-returns Inv-loop μ-loop
