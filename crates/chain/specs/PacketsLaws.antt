@@ -8,7 +8,7 @@ use native.Mathlib.Omega.{arith}
 use borrow.Author.Tests.{not-true}
 use lib.ListN.{length, drop}
 use Rattle.basis.specs.Pick.{pick}
-use Rattle.basis.specs.PickLaws.{by-test, off, on}
+use Rattle.basis.specs.PickLaws.{both, by-test, off, on}
 use Rattle.basis.specs.Refusals.{Answer, gives, refuses}
 use Rattle.rdh.specs.declared.rdh_cru.RdhCru.{RdhCru}
 use Rattle.scan_cdp.specs.Answers.{Found, handed, passed, wants}
@@ -17,7 +17,6 @@ use Rattle.scan_cdp.specs.Steps.{Entry, ended, unchanged}
 use Rattle.scan_cdp.specs.Outcomes.{isMatch}
 use Rattle.scan_cdp.specs.declared.LoadMarks.{LoadMarks}
 use Rattle.scan_cdp.specs.declared.Settings.{Settings}
-use Rattle.scan_laws.specs.RowLaws.{both}
 use Rattle.scan_laws.specs.StepLaws.{entry-cases, step-cases}
 use Rattle.chain.specs.Calls.{Call, Hold, Reply, Served, Window, along, replyAnswer, examination, examinedBy, examines, free, held, heldBack, keptBy, loadAlong, loadedBy, loads, replies, servedBy, toCome}
 use Rattle.chain.specs.CallsLaws.{held-cases}

@@ -8,7 +8,7 @@ use native.Mathlib.Omega.{arith}
 use lib.Dec.{eqb, leb}
 use lib.ListN.{length, getD, length-append}
 use borrow.Author.Tests.{leb-true, le-leb, eqb-true, eqb-false}
-use Rattle.basis.specs.PickLaws.{by-test}
+use Rattle.basis.specs.PickLaws.{both, by-test}
 use Rattle.its_names_numbers.specs.Numbers.{plusSign, digit0, digit9, isDigit, allDigits, valueOf, digitsNumber, numberOf}
 use Rattle.its_names_numbers.specs.NumberGrammar.{Digit, AllDigits, Digits, Number, plain, signed}
 use Rattle.its_names_numbers.specs.Parsing.{numberParsed, digitsParsed}
@@ -62,11 +62,6 @@ signed-parsed text digits p u8.NotANumber none = λ n number. refuted n number
     refuted n (signed digits′ p′ d) =
         let same : digits′ ≡ digits = cc in
         none n (subst (λ (t : List ℕ). Digits t n) same d)
-
--- both of two tests
-both : (a b : Bool) → (a && b) ≡ true → (a ≡ true) × (b ≡ true)
-both true b e = (refl, e)
-both false b e = absurd (true≢false (sym e))
 
 and-both : (a b : Bool) → a ≡ true → b ≡ true → (a && b) ≡ true
 and-both true b p q = q

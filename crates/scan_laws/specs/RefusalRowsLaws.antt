@@ -9,7 +9,7 @@ use lib.Dec.{eqb, leb, ltb}
 use lib.IntN.{ℤ}
 use lib.ListN.{length, take}
 use Rattle.basis.specs.Pick.{pick}
-use Rattle.basis.specs.PickLaws.{by-test}
+use Rattle.basis.specs.PickLaws.{both, by-test}
 use Rattle.basis.specs.Refusals.{refuses}
 use Rattle.filter.specs.Filter.{enabled}
 use Rattle.rdh.specs.declared.rdh_cru.RdhCru.{RdhCru}
@@ -31,7 +31,7 @@ use Rattle.scan_cdp.specs.declared.Position.{Position}
 use Rattle.scan_cdp.specs.declared.Settings.{Settings}
 use Rattle.scan_cdp.specs.declared.State.{State}
 use Rattle.scan_laws.specs.RefusalRowsClaims.{Left, OnlyRows, Row, Row1, Row2, Row3, Row4, Row6, bad, behindHeader, header, headerMarks, inTable, looked, noPlace, rest, short, when1, when6}
-use Rattle.scan_laws.specs.RowLaws.{both, cut-tells, header-number}
+use Rattle.scan_laws.specs.RowLaws.{cut-tells, header-number}
 use Rattle.scan_laws.specs.Runs.{isRefusal}
 use Rattle.scan_laws.specs.StepLaws.{Admitted, entry-answers, entry-cases, examined-cases, shownTo}
 

@@ -10,7 +10,7 @@ use lib.Dec.{ltb}
 use lib.IntN.{ℤ}
 use lib.ListN.{length, take, drop, length-drop, length-take}
 use Rattle.basis.specs.Pick.{pick}
-use Rattle.basis.specs.PickLaws.{by-test, off, on}
+use Rattle.basis.specs.PickLaws.{both, by-test, off, on}
 use Rattle.basis.specs.Refusals.{Answer, gives, refuses}
 use Rattle.rdh.specs.declared.rdh_cru.RdhCru.{RdhCru}
 use Rattle.scan_cdp.specs.Answers.{Found, answerAs, passed}
@@ -31,10 +31,6 @@ use Rattle.scan_cdp.specs.declared.Outcome.the-variants.{FeeIdsFull, BadOffset,
 pub either : {A : Type 0} (b : Bool) → (b ≡ true → A) → (b ≡ false → A) → A
 either true holds fails = holds refl
 either false holds fails = fails refl
-
-pub both : (a b : Bool) → (a && b) ≡ true → (a ≡ true) × (b ≡ true)
-both true b e = (refl, e)
-both false b e = absurd (false≢true e)
 
 -- ---- the answer
 

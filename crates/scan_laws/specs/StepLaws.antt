@@ -8,7 +8,7 @@ use borrow.Author.Tests.{eqb-false, ltb-false, ltb-true, ne-eqb, not-true}
 use lib.Dec.{ltb}
 use lib.IntN.{ℤ}
 use lib.ListN.{length, take, length-drop}
-use Rattle.basis.specs.PickLaws.{by-test, neither, on}
+use Rattle.basis.specs.PickLaws.{both, by-test, neither, on}
 use Rattle.basis.specs.Refusals.{Answer, gives, refuses}
 use Rattle.rdh.specs.declared.rdh_cru.RdhCru.{RdhCru}
 use Rattle.serde_rdh.specs.Layout.{decoded}
@@ -18,7 +18,7 @@ use Rattle.stats.specs.ListsLaws.{length-places, once-kept, used-kept}
 use Rattle.scan_cdp.specs.Answers.{Found, Handed, handed, passed}
 use Rattle.scan_cdp.specs.Loads.{isPassed}
 use Rattle.scan_laws.specs.OutcomeLaws.{Known, NotTaken, Taken, known-here}
-use Rattle.scan_laws.specs.RowLaws.{RefusedNumber, answer-as, answer-cases, both, place-moves}
+use Rattle.scan_laws.specs.RowLaws.{RefusedNumber, answer-as, answer-cases, place-moves}
 use Rattle.scan_laws.specs.Runs.{closes, isRefusal, isWant}
 use Rattle.scan_laws.specs.WindowLaws.{examined-header, examined-short, refused-6}
 use Rattle.scan_cdp.specs.Steps.{Entry, answerIn, ended, entryAt, entryOf, isFirst, limit, loadAfter, noMarks, placeAfter, placesListed, progressAfter}
