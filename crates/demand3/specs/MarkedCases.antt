@@ -70,5 +70,5 @@ marked =
     ∷ soundness 0x6030 0 0x4813 false
     -- E6 and E7: a stave filter, and a name
     ∷ stave-filter 0x502A 0x522A true
-    ∷ name (ascii "L9_70") (gives 0x1006)
+    ∷ name (ascii "L9_70") (refuses 8 [])
     ∷ []

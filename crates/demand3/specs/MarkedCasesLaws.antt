@@ -2,7 +2,7 @@
 use mathlib.Core.Path.{refl}
 use Rattle.basis.specs.Bytes.{bytesOf, little, numberAt}
 use Rattle.filter.specs.FilterLaws.{other-uplink-taken}
-use Rattle.its_names.specs.StaveNameLaws.{L9-70-given}
+use Rattle.its_names.specs.StaveNameLaws.{L9-70-refused}
 use Rattle.serde_rdh.specs.Layout.{decoded, header, span}
 use Rattle.sanity.specs.Tests.{allTests, anyFails, cruTests, feeIdTests, rdh0Tests, rdh1Tests, rdh2Tests, rdh3Tests, sound}
 use Rattle.scan_cdp.specs.Steps.{cut, entryOf, payloadOf, step, outcomeIn, unusable}
@@ -23,4 +23,4 @@ marked-agree =
     refl then refl then refl then refl
     then refl then refl then refl then refl then refl
     then (refl, refl) then refl
-    then other-uplink-taken then L9-70-given then tt
+    then other-uplink-taken then L9-70-refused then tt

@@ -1,14 +1,14 @@
 -- Laws of FEE ids: what is in one that was made, and that two are of one stave exactly where layer and stave are equal.
 use mathlib.Core.Path.{_≡_, ap, ap₂, sym, _∙_}
 use mathlib.Core.Bool.{true, false}
-use Prim.Native.Nat.{ℕ, _+_, _*_, _/_, _%_, _^_}
+use Prim.Native.Nat.{ℕ, _+_, _*_, _/_, _%_, _^_, _≤_}
 use native.Mathlib.Omega.{arith}
 use lib.Bits.{bitAnd, and-block, and-mask}
 use lib.Dec.{eqb}
 use lib.Pow.{split}
 use borrow.Author.Tests.{eq-eqb, eqb-true, ne-eqb}
 use Rattle.rdh.specs.Subfields.{layerOf, staveOf, uplinkOf}
-use Rattle.its.specs.FeeIds.{feeIdOf, layerStaveMask, sameStave}
+use Rattle.its.specs.FeeIds.{feeIdOf, highestLayer, highestStave, layerStaveMask, sameStave, staveFeeId}
 
 pub layer-made : (layer stave : ℕ) → layerOf (feeIdOf layer stave) ≡ layer % 8
 layer-made layer stave = omega arith
@@ -18,6 +18,16 @@ stave-made layer stave = omega arith
 
 pub uplink-made : (layer stave : ℕ) → uplinkOf (feeIdOf layer stave) ≡ 0
 uplink-made layer stave = omega arith
+
+-- the same with nothing folded, for the staves that there are
+pub layer-kept : (layer stave : ℕ) → layer ≤ highestLayer → stave ≤ highestStave → layerOf (staveFeeId layer stave) ≡ layer
+layer-kept layer stave l s = omega arith
+
+pub stave-kept : (layer stave : ℕ) → layer ≤ highestLayer → stave ≤ highestStave → staveOf (staveFeeId layer stave) ≡ stave
+stave-kept layer stave l s = omega arith
+
+pub uplink-kept : (layer stave : ℕ) → layer ≤ highestLayer → stave ≤ highestStave → uplinkOf (staveFeeId layer stave) ≡ 0
+uplink-kept layer stave l s = omega arith
 
 -- Layer and stave where they stand in a FEE id, all other bits 0.
 abbrev pub layerStave : ℕ → ℕ

@@ -4,6 +4,11 @@ ghost use Rattle.rdh.specs.Subfields.{layerOf, staveOf, uplinkOf};
 ghost use Rattle.its.specs.FeeIds.{feeIdOf, sameStave};
 use rdh::rdh0::FeeId;
 
+// The highest layer that there is, and the highest stave of a layer.
+pub const LAYER_MAX: u8 = 6;
+
+pub const STAVE_NUMBER_MAX: u8 = 47;
+
 // A FEE id keeps three bits of the layer, from bit 12 on, and six bits of the stave, from bit 0 on.
 const LAYER_MASK: u16 = 0b0111;
 

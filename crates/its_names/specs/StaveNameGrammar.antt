@@ -1,7 +1,9 @@
--- The grammar of stave names (N4). No public contract cites this file: `StaveNameLaws` says that `namedFee` agrees with it.
+-- The grammar of stave names (N4), and the staves that there are (N6). No public contract cites this file: `StaveNameLaws` says that
+-- `namedFee` agrees with it.
 use mathlib.Core.Path.{_≡_}
 use mathlib.Core.List.{List, _∷_, _++_}
-use Prim.Native.Nat.{ℕ, _<_}
+use Prim.Native.Nat.{ℕ, _<_, _≤_}
+use Rattle.its.specs.FeeIds.{highestLayer, highestStave}
 use Rattle.its_names_numbers.specs.NumberGrammar.{Number}
 use Rattle.its_names.specs.StaveNames.{underscore}
 
@@ -15,3 +17,9 @@ pub record Named (name : List ℕ) (layer stave : ℕ) : Type 0 where
   pub but-underscore : first ≡ underscore → ⊥
   pub a-layer : Number layer-text layer
   pub a-stave : Number stave-text stave
+
+-- The name of a stave that there is.
+pub record NamesStave (name : List ℕ) (layer stave : ℕ) : Type 0 where
+  pub form : Named name layer stave
+  pub layer-there : layer ≤ highestLayer
+  pub stave-there : stave ≤ highestStave

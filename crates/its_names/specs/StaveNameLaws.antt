@@ -1,23 +1,25 @@
--- Laws of stave names: `namedFee` gives each name of the grammar its FEE id, and refuses anything else; the grammar is unambiguous; and the
--- names of E7 and R8 with their answers.
+-- Laws of stave names: `namedFee` gives the name of each stave that there is its FEE id, which has its layer and its stave, and refuses
+-- anything else; the grammar is unambiguous; and names at the edges with their answers.
 use mathlib.Core.Path.{_≡_, refl, ap, ap₂, sym, _∙_, subst}
-use mathlib.Core.Bool.{Bool, true, false, _&&_, not, true≢false}
+use mathlib.Core.Bool.{Bool, true, false, _&&_, not, and-false}
 use mathlib.Core.List.{List, [], _∷_, _++_}
 use Prim.Native.Nat.{ℕ, zero, suc, _+_, _≤_, _<_}
 use native.Mathlib.Omega.{arith}
-use borrow.Author.Tests.{eq-eqb, ne-eqb, eqb-true, eqb-false, lt-ltb, ltb-true, not-true}
-use lib.Dec.{eqb, ltb}
+use borrow.Author.Tests.{eq-eqb, ne-eqb, eqb-true, eqb-false, le-leb, leb-true, lt-leb, lt-ltb, ltb-true, not-true}
+use lib.Dec.{eqb, leb, ltb}
 use lib.ListN.{length, getD, drop, length-append}
-use Rattle.basis.specs.PickLaws.{on, off, by-test}
+use Rattle.basis.specs.PickLaws.{on, off, both, by-test}
 use Rattle.basis.specs.Refusals.{Answer, gives, refuses}
-use Rattle.its.specs.FeeIds.{feeIdOf}
+use Rattle.its.specs.FeeIds.{highestLayer, highestStave, staveFeeId}
+use Rattle.its.specs.FeeIdLaws.{layer-kept, stave-kept, uplink-kept}
+use Rattle.rdh.specs.Subfields.{layerOf, staveOf, uplinkOf}
 use Rattle.its_names_numbers.specs.Numbers.{plusSign, allDigits, valueOf, digitsNumber, numberOf}
 use Rattle.its_names_numbers.specs.NumberGrammar.{Digits, Number, plain, signed}
 use Rattle.its_names_numbers.specs.NumberLaws.{one-number, some-bytes, number-found, found-number}
 use Rattle.its_names_numbers.specs.declared.ParsedU8.{ParsedU8}
 use Rattle.its_names_numbers.specs.declared.ParsedU8.the-variants as u8
-use Rattle.its_names.specs.StaveNames.{underscore, before, behind, startsName, feeOfNumbers, namedFee}
-use Rattle.its_names.specs.StaveNameGrammar.{Named}
+use Rattle.its_names.specs.StaveNames.{underscore, before, behind, startsName, feeOfStave, feeOfNumbers, namedFee}
+use Rattle.its_names.specs.StaveNameGrammar.{Named, NamesStave}
 
 -- No element of the list is x.
 abbrev pub Without : ℕ → List ℕ → Type 0
@@ -89,8 +91,8 @@ cut-joined x (y ∷ s) some = by-cases (cut-joined x s) (eqb y x) refl
     by-cases rest true e = rw e (ap (λ (z : ℕ). z ∷ s) (eqb-true y x e))
     by-cases rest false e = rw e (ap (λ (u : List ℕ). y ∷ u) (rest (rw e at some)))
 
--- a name by the grammar has its answer
-pub named-fee : (name : List ℕ) (layer stave : ℕ) → Named name layer stave → namedFee name ≡ gives (feeIdOf layer stave)
+-- a name by the grammar has the answer of its two numbers
+pub named-fee : (name : List ℕ) (layer stave : ℕ) → Named name layer stave → namedFee name ≡ feeOfStave layer stave
 unfolding namedFee
 named-fee name layer stave r =
     let clean = no-underscore (r .layer-text) layer (r .a-layer) in
@@ -99,6 +101,24 @@ named-fee name layer stave r =
     let starts : startsName (r .first) ≡ true =
     ap₂ (λ (low other : Bool). low && not other) (lt-ltb _ 0x80 (r .below-0x80)) (ne-eqb _ underscore (r .but-underscore)) in
     ap namedFee (r .parts) ∙ on _ _ starts ∙ ap₂ feeOfNumbers layer-found stave-found
+
+-- two numbers that are a layer and a stave have their FEE id, and with either above the highest there is refusal 8
+pub there-given : (layer stave : ℕ) → layer ≤ highestLayer → stave ≤ highestStave → feeOfStave layer stave ≡ gives (staveFeeId layer stave)
+unfolding feeOfStave
+there-given layer stave l s = on _ _ (ap₂ _&&_ (le-leb layer highestLayer l) (le-leb stave highestStave s))
+
+pub layer-refused : (layer stave : ℕ) → highestLayer < layer → feeOfStave layer stave ≡ refuses 8 []
+unfolding feeOfStave
+layer-refused layer stave above = off _ _ (ap (λ (b : Bool). b && leb stave highestStave) (lt-leb layer highestLayer above))
+
+pub stave-refused : (layer stave : ℕ) → highestStave < stave → feeOfStave layer stave ≡ refuses 8 []
+unfolding feeOfStave
+stave-refused layer stave above =
+    off _ _ (ap (λ (b : Bool). leb layer highestLayer && b) (lt-leb stave highestStave above) ∙ and-false (leb layer highestLayer))
+
+-- so the name of a stave that there is has its FEE id
+pub stave-given : (name : List ℕ) (layer stave : ℕ) → NamesStave name layer stave → namedFee name ≡ gives (staveFeeId layer stave)
+stave-given name layer stave r = named-fee name layer stave (r .form) ∙ there-given layer stave (r .layer-there) (r .stave-there)
 
 -- a first byte and two numbers on the sides of the first `_` are a name
 name-of-parts : (first : ℕ) (rest : List ℕ) (layer stave : ℕ) → startsName first ≡ true
@@ -115,48 +135,68 @@ name-of-parts first rest layer stave starts a-layer a-stave =
       a-layer = a-layer;
       a-stave = a-stave;
     }
-  where
-    both : (a b : Bool) → (a && b) ≡ true → (a ≡ true) × (b ≡ true)
-    both true b e = (refl, e)
-    both false b e = absurd (true≢false (sym e))
 
--- what holds of the FEE id of a name by the grammar, and of refusal 8, holds of every answer
-pub by-answer : (P : Answer ℕ → Type 0) (name : List ℕ) → ((layer stave : ℕ) → Named name layer stave → P (gives (feeIdOf layer stave)))
-    → P (refuses 8 []) → P (namedFee name)
-unfolding namedFee
+-- what holds of the FEE id of a stave's name, and of refusal 8, holds of every answer
+pub by-answer : (P : Answer ℕ → Type 0) (name : List ℕ)
+    → ((layer stave : ℕ) → NamesStave name layer stave → P (gives (staveFeeId layer stave))) → P (refuses 8 []) → P (namedFee name)
+unfolding namedFee feeOfStave
 by-answer P [] given refused = refused
 by-answer P (first ∷ rest) given refused =
     by-test P (startsName first) _ _
     (λ starts. by-numbers starts (numberOf (before underscore rest)) (numberOf (behind underscore rest)) refl refl)
     (λ starts-ill. refused)
   where
+    by-limits : (layer stave : ℕ) → Named (first ∷ rest) layer stave → P (feeOfStave layer stave)
+    by-limits layer stave form =
+        by-test P (leb layer highestLayer && leb stave highestStave) _ _
+        (λ there.
+        let tests = both (leb layer highestLayer) (leb stave highestStave) there in
+        given layer stave (record { form = form; layer-there = leb-true _ _ (tests .0); stave-there = leb-true _ _ (tests .1) }))
+        (λ above. refused)
+
     by-numbers : startsName first ≡ true → (layer stave : ParsedU8) → numberOf (before underscore rest) ≡ layer
         → numberOf (behind underscore rest) ≡ stave → P (feeOfNumbers layer stave)
     by-numbers starts (u8.Number layer) (u8.Number stave) l s =
-        given layer stave (name-of-parts first rest layer stave starts (found-number _ layer l) (found-number _ stave s))
+        by-limits layer stave (name-of-parts first rest layer stave starts (found-number _ layer l) (found-number _ stave s))
     by-numbers starts (u8.Number layer) u8.NotANumber l s = refused
     by-numbers starts u8.NotANumber stave l s = refused
 
--- what has a FEE id for an answer is a name by the grammar, of that FEE id
-pub fee-named : (name : List ℕ) (id : ℕ) → namedFee name ≡ gives id
-    → (layer : ℕ) × (stave : ℕ) × Named name layer stave × (id ≡ feeIdOf layer stave)
-fee-named name id =
-    by-answer (λ a. a ≡ gives id → (layer : ℕ) × (stave : ℕ) × Named name layer stave × (id ≡ feeIdOf layer stave)) name
-    (λ layer stave r e. (layer, stave, r, (cc)))
-    (λ e.
+-- refusal 8 is no FEE id
+refused-no-fee : (id : ℕ) → refuses 8 [] ≡ gives id → ⊥
+refused-no-fee id e =
     let z : _≡_ {A = ℕ} 0 1 = cc in
-    absurd (omega arith))
+    omega arith
 
--- what is no name by the grammar is refused
-pub other-refused : (name : List ℕ) → ((layer stave : ℕ) → Named name layer stave → ⊥) → namedFee name ≡ refuses 8 []
+-- what has a FEE id for an answer is the name of a stave that there is, and the FEE id is that stave's
+pub fee-named : (name : List ℕ) (id : ℕ) → namedFee name ≡ gives id
+    → (layer : ℕ) × (stave : ℕ) × NamesStave name layer stave × (id ≡ staveFeeId layer stave)
+fee-named name id =
+    by-answer (λ a. a ≡ gives id → (layer : ℕ) × (stave : ℕ) × NamesStave name layer stave × (id ≡ staveFeeId layer stave)) name
+    (λ layer stave r e. (layer, stave, r, (cc)))
+    (λ e. absurd (refused-no-fee id e))
+
+-- a name's FEE id has the name's layer and stave, at uplink 0
+pub named-parts : (name : List ℕ) (id layer stave : ℕ) → Named name layer stave → namedFee name ≡ gives id
+    → (layerOf id ≡ layer) × (staveOf id ≡ stave) × (uplinkOf id ≡ 0)
+named-parts name id layer stave form e =
+    let found = fee-named name id e in
+    let r = found .2 in
+    let same = unambiguous name (found .0) (found .1) layer stave (r .form) form in
+    let at-layer = ap layerOf (found .3) ∙ layer-kept _ _ (r .layer-there) (r .stave-there) in
+    let at-stave = ap staveOf (found .3) ∙ stave-kept _ _ (r .layer-there) (r .stave-there) in
+    let at-uplink = ap uplinkOf (found .3) ∙ uplink-kept _ _ (r .layer-there) (r .stave-there) in
+    (at-layer ∙ same .0, at-stave ∙ same .1, at-uplink)
+
+-- what is the name of no stave that there is is refused
+pub other-refused : (name : List ℕ) → ((layer stave : ℕ) → NamesStave name layer stave → ⊥) → namedFee name ≡ refuses 8 []
 other-refused name none = by-answer (λ a. a ≡ refuses 8 []) name (λ layer stave r. absurd (none layer stave r)) refl
 
--- the name L9_70 (E7)
-pub L9-70-given : namedFee (76 ∷ 57 ∷ 95 ∷ 55 ∷ 48 ∷ []) ≡ gives 0x1006
-unfolding namedFee before behind numberOf digitsNumber allDigits valueOf
-L9-70-given = refl
+-- L9_70 names no stave: there is no layer 9 (E7)
+pub L9-70-refused : namedFee (76 ∷ 57 ∷ 95 ∷ 55 ∷ 48 ∷ []) ≡ refuses 8 []
+unfolding namedFee feeOfStave before behind numberOf digitsNumber allDigits valueOf
+L9-70-refused = refl
 
 -- L5 is no stave name (R8)
 pub L5-refused : namedFee (76 ∷ 53 ∷ []) ≡ refuses 8 []
-unfolding namedFee before behind numberOf digitsNumber allDigits valueOf
+unfolding namedFee feeOfStave before behind numberOf digitsNumber allDigits valueOf
 L5-refused = refl

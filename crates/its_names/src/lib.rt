@@ -2,10 +2,15 @@
 ghost use mathlib.Core.Path.{_≡_};
 ghost use Prim.Native.Nat.{_<_};
 ghost use lib.ListN.{length};
-ghost use Rattle.its_names.specs.StaveNames.{nameAnswer, namedFee};
+ghost use Rattle.its_names.specs.StaveNames.{feeOfStave, nameAnswer, namedFee};
 ghost use Rattle.its_names.specs.Parsing.{nameParsed, startParsed, bothNumbers, FirstUnderscore};
+use its::LAYER_MAX;
+use its::STAVE_NUMBER_MAX;
 use its_names_numbers::ParsedU8;
 use its_names_numbers::parse_u8;
+
+// How far the FEE ids of a layer are from those of the next one.
+const LAYER_STEP: u16 = 0x1000;
 
 // The FEE id that a stave name stands for, or refusal 8.
 pub enum StaveFeeId {
@@ -13,25 +18,34 @@ pub enum StaveFeeId {
     NotAStaveName,
 }
 
-// The layer and the stave that a stave name has.
+// The layer and the stave that a text has if it has the form of a stave name, be there such a stave or not.
 enum ParsedName {
     Stave(u8, u8),
     NotAStaveName,
 }
 
-// The FEE id of the stave that is named, as `L5_42`, at uplink 0. A second `_` is refused, which the Rust overlooks.
+// The FEE id of the stave that is named, as `L5_42`, at uplink 0. A second `_` is refused, which the Rust overlooks; and so is a layer or a
+// stave that there is not, which the Rust folds to one that there may be.
 pub fn layer_stave_string_to_feeid(name: &[u8]) -> StaveFeeId
     ensures { λ r. ⌜ nameAnswer r ≡ namedFee (now (name .entry)) ⌝ }
 {
     match parse_stave_name(name) {
-        ParsedName::Stave(layer, stave) => {
-            StaveFeeId::FeeId(its::feeid_from_layer_stave(layer, stave))
-        }
+        ParsedName::Stave(layer, stave) => stave_feeid(layer, stave),
         ParsedName::NotAStaveName => StaveFeeId::NotAStaveName,
     }
 }
 
-// The two numbers of a stave name, as they are written: a FEE id keeps only their lower bits.
+// The FEE id of a layer and a stave that there are. Its product and its sum are exact, so that no stave is taken for another.
+fn stave_feeid(layer: u8, stave: u8) -> StaveFeeId
+    ensures { λ r. ⌜ nameAnswer r ≡ feeOfStave layer stave ⌝ }
+{
+    if layer > LAYER_MAX || stave > STAVE_NUMBER_MAX {
+        return StaveFeeId::NotAStaveName;
+    }
+    StaveFeeId::FeeId(layer as u16 * LAYER_STEP + stave as u16)
+}
+
+// The two numbers of a stave name, as they are written.
 fn parse_stave_name(name: &[u8]) -> ParsedName
     ensures { λ r. ⌜ nameParsed (now (name .entry)) r ⌝ }
 {

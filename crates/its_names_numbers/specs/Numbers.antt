@@ -1,5 +1,4 @@
--- The numbers of a stave name (N5): the number that a list of bytes is, if it is one, as a function of the bytes. `NumberGrammar` has the
--- same rule as a grammar, and `NumberLaws` that the two agree.
+-- The numbers of a stave name (N5): the number that a list of bytes is, if it is one. `NumberLaws` says that the grammar agrees.
 use Prim.Native.Nat.{ℕ, _+_, _-_, _*_, _^_}
 use mathlib.Core.Bool.{Bool, true, _&&_}
 use mathlib.Core.List.{List, [], _∷_}

@@ -7,6 +7,7 @@ use lib.Bits.{bitAnd}
 use lib.Dec.{eqb, ltb}
 use Rattle.basis.specs.Bits.{bits}
 use Rattle.basis.specs.Pick.{pick}
+use Rattle.its.specs.FeeIds.{highestLayer, highestStave}
 use Rattle.rdh.specs.declared.rdh0.Rdh0.{Rdh0}
 use Rattle.rdh.specs.declared.rdh1.Rdh1.{Rdh1}
 use Rattle.rdh.specs.declared.rdh2.Rdh2.{Rdh2}
@@ -50,15 +51,15 @@ pieces (t ∷ ts) = pieceOf t ++ pieces ts
 abbrev pub section : String → List Test → List ℕ
 section heading ts = pick (anyFails ts) (ascii heading ++ pieces ts) []
 
--- The tests of a FEE id: no bit of 0x8CC0; stave 0 to 47; layer 0 to 6 (V4).
+-- The tests of a FEE id: no bit of 0x8CC0; no stave and no layer above the highest (V4).
 abbrev pub reservedBitsTest : ℕ → Test
 reservedBitsTest n = test (not (eqb n 0)) (hexPiece "reserved bits = " n)
 
 abbrev pub staveTest : ℕ → Test
-staveTest n = test (ltb 47 n) (decimalPiece "stave number = " n)
+staveTest n = test (ltb highestStave n) (decimalPiece "stave number = " n)
 
 abbrev pub layerTest : ℕ → Test
-layerTest n = test (ltb 6 n) (decimalPiece "layer = " n)
+layerTest n = test (ltb highestLayer n) (decimalPiece "layer = " n)
 
 unfoldable pub feeIdTests : ℕ → List Test
 feeIdTests fee = reservedBitsTest (bitAnd fee 0x8CC0) ∷ staveTest (staveOf fee) ∷ layerTest (layerOf fee) ∷ []

@@ -2,13 +2,11 @@
 ghost use mathlib.Core.Path.{_≡_};
 ghost use lib.Bits.{bitAnd};
 ghost use Rattle.sanity.specs.Tests.{layerTest, reservedBitsTest, staveTest};
+use its::LAYER_MAX;
+use its::STAVE_NUMBER_MAX;
 use rdh::rdh0::FeeId;
 
 const RESERVED_BITS_MASK: u16 = 0b1000_1100_1100_0000;
-
-const STAVE_NUMBER_MAX: u8 = 47;
-
-const LAYER_MAX: u8 = 6;
 
 pub fn reserved_bits(fee_id: FeeId) -> u16
     ensures { λ r. ⌜ r ≡ bitAnd («fee_id» .0) 0x8CC0 ⌝ }

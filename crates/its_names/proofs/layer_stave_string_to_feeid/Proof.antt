@@ -1,6 +1,11 @@
--- The name is parsed, and the FEE id is made of its two numbers.
-use mathlib.Core.Path.{ap, sym, subst, _∙_}
-use Rattle.basis.specs.Refusals.{gives}
+-- The name is parsed, and its two numbers have their answer.
+use mathlib.Core.Path.{_≡_, ap₂, sym, subst, _∙_}
+use mathlib.Core.List.{List}
+use Prim.Native.Nat.{ℕ}
+use native.Mathlib.Omega.{arith}
+use Rattle.basis.specs.Refusals.{Answer}
+use Rattle.its_names.specs.StaveNames.{feeOfStave, namedFee}
+use Rattle.its_names.specs.StaveNameGrammar.{Named}
 use Rattle.its_names.specs.StaveNameLaws.{named-fee, other-refused}
 use Rattle.its_names.specs.Parsing.{nameParsed}
 use Rattle.its_names.proofs.layer_stave_string_to_feeid.Statement.{statement}
@@ -12,20 +17,28 @@ parse-stave-name-requires c κs = tt
 enum-known-layer : tie.Need-enum-known-layer
 enum-known-layer c = c .match .keys1
 
-feeid-from-layer-stave-requires : tie.Need-feeid-from-layer-stave-requires
-feeid-from-layer-stave-requires c κs = tt
+stave-feeid-requires : tie.Need-stave-feeid-requires
+stave-feeid-requires c κs = tt
 
 enum-told : tie.Need-enum-told
 enum-told c = c .match .keys2
 
+-- the answer of the numbers that are handed on is that of the name if they are its layer and its stave
+handed-on : {answer : Answer ℕ} {n m : ℕ} (name : List ℕ) (layer stave : ℕ) → Named name layer stave → answer ≡ feeOfStave n m
+    → n ≡ layer → m ≡ stave → answer ≡ namedFee name
+handed-on name layer stave form answered layers staves =
+    answered ∙ ap₂ feeOfStave layers staves ∙ sym (named-fee name layer stave form)
+
 returns : tie.Need-returns
 returns c =
     let parsed = c .before .before .before .before .parse-stave-name .ensures in
-    ap gives (c .feeid-from-layer-stave .ensures)
-    ∙ sym (named-fee _ _ _ (subst (nameParsed _) (c .before .before .layer .given .1) parsed))
+    let form = subst (nameParsed _) (c .before .before .layer .given .1) parsed in
+    handed-on _ _ _ form (c .stave-feeid .ensures) (omega arith) (omega arith)
 
 returns-2 : tie.Need-returns-2
-returns-2 c = sym (other-refused _ (subst (nameParsed _) (c .enum-told .given .1) (c .before .before .parse-stave-name .ensures)))
+returns-2 c =
+    let none = subst (nameParsed _) (c .enum-told .given .1) (c .before .before .parse-stave-name .ensures) in
+    sym (other-refused _ (λ layer stave r. none layer stave (r .form)))
 
 pub layer-stave-string-to-feeid-spec : {M : Type 1} → statement M
 layer-stave-string-to-feeid-spec =
@@ -33,7 +46,7 @@ layer-stave-string-to-feeid-spec =
     (tie.spec
     parse-stave-name-requires
     enum-known-layer
-    feeid-from-layer-stave-requires
+    stave-feeid-requires
     enum-told
     returns
     returns-2)
