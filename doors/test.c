@@ -112,9 +112,22 @@ static void staves(void)
     CHECK(kesarimbu_fee_id(5, 42) == 0x502A && kesarimbu_fee_id(9, 70) == 0x1006);
     CHECK(kesarimbu_same_stave(0x502A, 0x522A) && !kesarimbu_same_stave(0x502A, 0x502B));
     CHECK(named("L5_42").refusal == 0 && named("L5_42").fee_id == 0x502A);
-    CHECK(named("L9_70").refusal == 0 && named("L9_70").fee_id == 0x1006);
+    CHECK(named("L6_47").refusal == 0 && named("L6_47").fee_id == 0x602F);
+    CHECK(named("L9_70").refusal == KESARIMBU_NOT_A_STAVE_NAME && named("L9_70").fee_id == 0);
     CHECK(named("L5").refusal == KESARIMBU_NOT_A_STAVE_NAME && named("L5").fee_id == 0);
     CHECK(named("").refusal == KESARIMBU_NOT_A_STAVE_NAME);
+}
+
+static void filters_by_name(void)
+{
+    struct kesarimbu_settings before = {.by_link = true, .link = 2, .fee = 7, .stave = 9, .stats = true};
+    struct kesarimbu_stave_set s = kesarimbu_set_stave(before, (const uint8_t *)"L5_42", 5);
+    CHECK(s.refusal == 0 && s.settings.by_stave && s.settings.stave == 0x502A);
+    CHECK(s.settings.by_link && s.settings.link == 2 && !s.settings.by_fee && s.settings.fee == 7);
+    CHECK(!s.settings.skip_payload && s.settings.stats);
+    s = kesarimbu_set_stave(before, (const uint8_t *)"L7_0", 4);
+    CHECK(s.refusal == KESARIMBU_NOT_A_STAVE_NAME && !s.settings.by_stave && s.settings.stave == 9);
+    CHECK(s.settings.by_link && s.settings.link == 2 && !s.settings.by_fee && s.settings.fee == 7);
 }
 
 static void verdicts(void)
@@ -356,6 +369,9 @@ static void layout_of_a_scan(void)
     FIELD(kesarimbu_settings, stave);
     FIELD(kesarimbu_settings, skip_payload);
     FIELD(kesarimbu_settings, stats);
+    SIZE(kesarimbu_stave_set);
+    FIELD(kesarimbu_stave_set, settings);
+    FIELD(kesarimbu_stave_set, refusal);
     SIZE(kesarimbu_state);
     FIELD(kesarimbu_state, place);
     FIELD(kesarimbu_state, position);
@@ -414,6 +430,7 @@ int main(int argc, char **argv)
     parts_and_equality();
     rows();
     staves();
+    filters_by_name();
     verdicts();
     triggers();
     examinations();

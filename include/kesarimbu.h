@@ -72,7 +72,7 @@ enum kesarimbu_refusal {
     KESARIMBU_FEE_IDS_FULL = 4,     /* the FEE id is new, and the list has no place for it */
     KESARIMBU_UNUSABLE = 6,         /* the state, the lists or the window cannot be worked with: nothing changed */
     KESARIMBU_BUFFER_TOO_SHORT = 7, /* the text needs more bytes than were lent: nothing was written */
-    KESARIMBU_NOT_A_STAVE_NAME = 8, /* as it says */
+    KESARIMBU_NOT_A_STAVE_NAME = 8, /* not a stave name, or the name of a layer above 6 or a stave above 47 */
     KESARIMBU_FEWER_THAN_64 = 9     /* fewer than 64 bytes were lent for a header: nothing was written */
 };
 
@@ -204,6 +204,12 @@ struct kesarimbu_settings {
     bool stats;
 };
 
+/* Settings that filter by the stave that was named, or refusal 8 and the settings as they were. */
+struct kesarimbu_stave_set {
+    struct kesarimbu_settings settings;
+    uint32_t refusal;
+};
+
 /* What a scan keeps between two calls, beside the lists. `place` is where it reads; `position` is what it reports. `load_start` is the
    position from which the open load started, if `load_open`, and else 0 whenever a call leaves it. */
 struct kesarimbu_state {
@@ -276,14 +282,18 @@ struct kesarimbu_text kesarimbu_row(struct kesarimbu_header header, uint8_t *out
 /* Layer, stave and fibre uplink of a FEE id. */
 struct kesarimbu_fee_parts kesarimbu_fee(uint16_t fee_id);
 
-/* The FEE id of a layer and a stave at uplink 0, from the lowest three bits of the one and six of the other. */
+/* The FEE id of a layer and a stave at uplink 0, from the lowest three bits of the one and six of the other: what lies above them is lost,
+   and layer 9 becomes layer 1. A name is not folded so. */
 uint16_t kesarimbu_fee_id(uint8_t layer, uint8_t stave);
 
 /* Whether two FEE ids have the same layer and stave. */
 bool kesarimbu_same_stave(uint16_t fee_id, uint16_t other);
 
-/* The FEE id of the stave that is named, as L5_42. */
+/* The FEE id at uplink 0 of the stave that is named, as L5_42: layers are 0 to 6, staves 0 to 47. */
 struct kesarimbu_named kesarimbu_name(const uint8_t *name, size_t length);
+
+/* The settings with the stave that is named for a filter, and all else as it was. A filter by link or FEE id still comes first. */
+struct kesarimbu_stave_set kesarimbu_set_stave(struct kesarimbu_settings settings, const uint8_t *name, size_t length);
 
 /* Whether a header is sound, with a text that names what is not: 406 bytes are always enough. */
 struct kesarimbu_checked kesarimbu_check(struct kesarimbu_validator validator, struct kesarimbu_header header, uint8_t *text,

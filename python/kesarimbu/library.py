@@ -29,6 +29,7 @@ SIGNATURES = {
     "kesarimbu_fee_id": (c_uint16, c_uint8, c_uint8),
     "kesarimbu_same_stave": (c_bool, c_uint16, c_uint16),
     "kesarimbu_name": (structs.Named, *_LENT),
+    "kesarimbu_set_stave": (structs.StaveSet, structs.Settings, *_LENT),
     "kesarimbu_check": (structs.Checked, structs.Validator, structs.Header, *_LENT),
     "kesarimbu_count_triggers": (structs.TriggerCounts, structs.TriggerCounts, *_LENT),
     "kesarimbu_trigger_list": (structs.Text, structs.TriggerCounts, *_LENT),
@@ -75,6 +76,7 @@ fee = _declared(_library, "kesarimbu_fee")
 fee_id = _declared(_library, "kesarimbu_fee_id")
 same_stave = _declared(_library, "kesarimbu_same_stave")
 name = _declared(_library, "kesarimbu_name")
+set_stave = _declared(_library, "kesarimbu_set_stave")
 check = _declared(_library, "kesarimbu_check")
 count_triggers = _declared(_library, "kesarimbu_count_triggers")
 trigger_list = _declared(_library, "kesarimbu_trigger_list")

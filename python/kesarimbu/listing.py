@@ -47,10 +47,10 @@ class Listing:
     (Refused(1), 0, 64)
     """
 
-    def __init__(self, source: Source, *, link: int | None = None, fee: int | None = None, stave: str | int | None = None,
+    def __init__(self, source: Source, *, link: int | None = None, fee: int | None = None, stave: str | bytes | int | None = None,
                  skip_payload: bool = False, stats: bool = True, version: int | None = None, its: bool = False,
                  places: int = plain.PLACES, window: int = WINDOW, room: int = ROOM) -> None:
-        self._settings = plain.settings(link, fee, plain.stave_number(stave), skip_payload, stats)
+        self._settings = plain.settings(link, fee, stave, skip_payload, stats)
         self._listed = structs.Listed(validator=plain.validator(version, its, None))
         self._links = (c_uint8 * structs.LINKS)()
         self._fee_ids = (c_uint16 * places)()

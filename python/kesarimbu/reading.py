@@ -5,7 +5,7 @@ from array import array
 from dataclasses import dataclass
 from typing import TYPE_CHECKING, Any
 
-from .plain import PLACES, stave_number
+from .plain import PLACES
 from .refusals import Refused
 from .scan import NO_MARKS, Kept, Marks, Packet, Scan, Settings, Want
 from .windows import Windows
@@ -86,7 +86,7 @@ def together(marks: Marks, more: Marks) -> Marks:
                  marks.e100 or more.e100)
 
 
-def packets(source: Source, *, link: int | None = None, fee: int | None = None, stave: str | int | None = None,
+def packets(source: Source, *, link: int | None = None, fee: int | None = None, stave: str | bytes | int | None = None,
             skip_payload: bool = False, stats: bool = True, places: int = PLACES, window: int = WINDOW) -> Packets:
     """The packets of a recording of any size: those of a link, a FEE id or a stave (its name, such as "L5_42", or a FEE id), or all.
 
@@ -114,6 +114,5 @@ def packets(source: Source, *, link: int | None = None, fee: int | None = None, 
         with packets(path) as found:
             first = next(found)
     """
-    settings = Settings(link, fee, stave_number(stave), skip_payload, stats)
-    scan = Scan(settings, Kept(fee_ids=array("H", bytes(2 * places))))
+    scan = Scan(Settings(link, fee, stave, skip_payload, stats), Kept(fee_ids=array("H", bytes(2 * places))))
     return Packets(Windows(source, window), scan)

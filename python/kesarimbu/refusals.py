@@ -13,7 +13,7 @@ WORDS = {
     FEE_IDS_FULL: "the FEE id is new, and the list has no place for it",
     UNUSABLE: "the state, the lists or the window cannot be worked with",
     BUFFER_TOO_SHORT: "the text needs more bytes than were lent",
-    NOT_A_STAVE_NAME: "not a stave name",
+    NOT_A_STAVE_NAME: "not a stave name: write a letter, a layer of 0 to 6, _ and a stave of 0 to 47, as L5_42",
     FEWER_THAN_64: "fewer than 64 bytes were lent for a header",
 }
 
@@ -24,8 +24,8 @@ class Refused(Exception):
     `number` is the refusal's number. `values` are (distance, position) with refusal 2: the offset minus 64, and the position of the refused
     header; (needed,) with refusal 7: the length that the text needs; and else ().
 
-    >>> str(Refused(8))
-    'refused with 8: not a stave name'
+    >>> str(Refused(9))
+    'refused with 9: fewer than 64 bytes were lent for a header'
     >>> Refused(2, (-1, 64)).values
     (-1, 64)
     >>> Refused(1) == Refused(1), Refused(7, (3,)) == Refused(7, (4,))

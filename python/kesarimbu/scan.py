@@ -20,17 +20,29 @@ if TYPE_CHECKING:
 
 @dataclass(frozen=True)
 class Settings:
-    """What a scan is asked for: the filter (a link, a FEE id, or a stave as a FEE id of which layer and stave are compared), whether
-    payload is skipped, and whether headers are counted and listed.
+    """What a scan is asked for: the filter (a link, a FEE id, or a stave by its name or as a FEE id of which layer and stave are compared),
+    whether payload is skipped, and whether headers are counted and listed.
 
-    Of several filters the first of link, FEE id and stave decides; without any, all headers match.
+    Of several filters the first of link, FEE id and stave decides; without any, all headers match. A name is refused with 8 at once if there
+    is no such stave.
+
+    >>> Settings(stave="L5_42").stave
+    'L5_42'
+    >>> Settings(stave="L7_0")
+    Traceback (most recent call last):
+    ...
+    kesarimbu.Refused: refused with 8: not a stave name: write a letter, a layer of 0 to 6, _ and a stave of 0 to 47, as L5_42
     """
 
     link: int | None = None
     fee: int | None = None
-    stave: int | None = None
+    stave: str | bytes | int | None = None
     skip_payload: bool = False
     stats: bool = True
+
+    def __post_init__(self) -> None:
+        if isinstance(self.stave, (str, bytes)):
+            plain.with_stave(structs.Settings(), self.stave)
 
 
 def _no_fee_ids() -> array:

@@ -5,6 +5,7 @@ from ctypes import c_uint8, c_uint16
 from typing import NamedTuple
 
 from . import library
+from .plain import letters_of
 from .refusals import Refused
 from .structs import fitting
 
@@ -28,7 +29,8 @@ def fee(fee_id: int) -> Fee:
 
 
 def fee_id(layer: int, stave: int) -> int:
-    """The FEE id of a layer and a stave at uplink 0: from the lowest three bits of the one and six of the other.
+    """The FEE id of a layer and a stave at uplink 0: from the lowest three bits of the one and six of the other. What lies above them is
+    lost, and layer 9 becomes layer 1; `name` refuses it.
 
     >>> hex(fee_id(5, 42))
     '0x502a'
@@ -46,16 +48,16 @@ def same_stave(fee_id: int, other: int) -> bool:
 
 
 def name(name: str | bytes) -> int:
-    """The FEE id of the stave with this name. Refusal 8 if it is not a stave's name.
+    """The FEE id of the stave with this name, at uplink 0. Refusal 8 if it is not a stave's name: layers are 0 to 6, and staves 0 to 47.
 
     >>> hex(name("L5_42"))
     '0x502a'
-    >>> name("L5")
+    >>> name("L9_70")
     Traceback (most recent call last):
     ...
-    kesarimbu.Refused: refused with 8: not a stave name
+    kesarimbu.Refused: refused with 8: not a stave name: write a letter, a layer of 0 to 6, _ and a stave of 0 to 47, as L5_42
     """
-    letters = name.encode("utf-8", "surrogatepass") if isinstance(name, str) else bytes(name)
+    letters = letters_of(name)
     named = library.name(letters, len(letters))
     if named.refusal:
         raise Refused(named.refusal)

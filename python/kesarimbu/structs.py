@@ -120,6 +120,10 @@ class Settings(Structure):
     ]
 
 
+class StaveSet(Structure):
+    _fields_ = [("settings", Settings), ("refusal", c_uint32)]
+
+
 class State(Structure):
     _fields_ = [
         ("place", c_uint64),

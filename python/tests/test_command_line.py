@@ -155,9 +155,11 @@ class Misuse(unittest.TestCase):
                 self.hold(words, said)
 
     def test_a_name_that_is_no_stave(self):
-        for name in ("L5", "", "L5_42_1", "\udcff5_42"):
+        for name in ("L5", "", "L5_42_1", "\udcff5_42", "L9_70", "L7_0", "L6_48"):
             with self.subTest(name):
-                self.hold(["list", "--stave", name, SAMPLE], "not a stave name")
+                self.hold(["list", "--stave", name, SAMPLE],
+                          f"argument --stave: {name!r}: refused with 8: not a stave name: write a letter, a layer of 0 to 6, _ and a stave "
+                          "of 0 to 47, as L5_42\n")
 
     def test_a_file_that_cannot_be_read(self):
         self.hold(["list", ROOT / "no such file"], "No such file or directory")

@@ -101,7 +101,7 @@ class Misuse(unittest.TestCase):
         self.assertRaises(OverflowError, packets, io.BytesIO(), fee=-1)
         self.assertRaises(TypeError, packets, io.BytesIO(), fee=1.5)
         with self.assertRaises(Refused) as caught:
-            packets(io.BytesIO(), stave="L5")
+            packets(io.BytesIO(), stave="L9_70")
         self.assertEqual(caught.exception, Refused(8))
 
     def test_no_such_file(self):

@@ -5,9 +5,9 @@ ghost use Rattle.its_names.specs.StaveNames.{nameAnswer, namedFee};
 ghost use Rattle.doors_staves.specs.Replies.{feeParts, plainNamed};
 use its_names::StaveFeeId;
 
-const NO_REFUSAL: u32 = 0;
+pub const NO_REFUSAL: u32 = 0;
 
-const NOT_A_STAVE_NAME: u32 = 8;
+pub const NOT_A_STAVE_NAME: u32 = 8;
 
 #[repr(C)]
 pub struct PlainFeeParts {
