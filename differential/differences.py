@@ -23,7 +23,15 @@ def of_name(word, rust):
         return "names without '_', at which the Rust panics", ["refused 8"]
     if rust[0].startswith("name ") and name.count(b"_") > 1:
         return "names with a second '_', which the Rust overlooks", ["refused 8"]
+    if rust[0].startswith("name ") and is_of_no_stave(name):
+        return "names of a layer above 6 or a stave above 47, which the Rust gives a FEE id", ["refused 8"]
     return None
+
+
+def is_of_no_stave(name):
+    """Whether a name in which the Rust has found a layer and a stave has them above the highest that there are."""
+    layer, stave = name[1:].split(b"_")
+    return int(layer) > 6 or int(stave) > 47
 
 
 def of_scan(words, rust):

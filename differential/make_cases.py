@@ -7,6 +7,7 @@
     make_cases.py lengths SEED COUNT    verdicts, rows and trigger texts into buffers of every length near the text's
     make_cases.py fees                  every FEE id, and layers and staves
     make_cases.py names SEED COUNT      stave names and what is none
+    make_cases.py staves                the name of every stave, and of layers and staves above the highest
     make_cases.py triggers SEED COUNT   pairs of trigger statistics
     make_cases.py scans SEED            scans of every recording that make_recordings.py makes from the seed
     make_cases.py sweeps SEED           scans of a short recording, sound or damaged, cut at every length
@@ -119,20 +120,28 @@ def fees():
         print("match", stave, stave)
 
 
-def some_number(rng):
+def some_number(rng, highest):
+    """Mostly a number of a stave that there is, or next to one."""
     sign = rng.choice(12 * [""] + ["+", "+", "-", "++", " "])
-    digits = rng.choice(5 * [str(rng.randrange(64))] + [str(rng.randrange(300)), str(rng.randrange(250, 262)), "", "x", "1x"])
+    digits = rng.choice(15 * [str(rng.randrange(highest + 2))] + [str(rng.randrange(64)), str(rng.randrange(300)),
+                                                                  str(rng.randrange(250, 262)), "", "x", "1x"])
     return sign + "0" * rng.choice([0, 0, 0, 1, 2, 30]) + digits
 
 
 def names(rng, count):
     for _ in range(count):
         first = rng.choice(8 * ["L"] + ["l", "+", "7", "\0", "\x7f", "_", "", "é", "LL"])
-        parts = [some_number(rng) for _ in range(rng.choice([0, 1] + 15 * [2] + [3]))]
+        parts = [some_number(rng, highest) for highest in (6, 47, 47)[:rng.choice([0, 1] + 15 * [2] + [3])]]
         name = (first + "_".join(parts)).encode()
         if rng.random() < 0.05:
             name += bytes([rng.randrange(256)])
         print("name", name.hex() or "-")
+
+
+def staves():
+    for layer in [*range(10), 63, 64, 127, 128, 255, 256]:
+        for stave in [*range(72), 127, 128, 255, 256]:
+            print("name", f"L{layer}_{stave}".encode().hex())
 
 
 def triggers(rng, count):
@@ -244,7 +253,7 @@ def main(words):
             globals()[kind](random.Random(f"{kind} {seed}"), int(count))
         case ["scans" | "sweeps" as kind, seed]:
             globals()[kind](int(seed))
-        case ["fees" | "edges" | "carry" | "wrap" as kind]:
+        case ["fees" | "staves" | "edges" | "carry" | "wrap" as kind]:
             globals()[kind]()
         case _:
             sys.exit(__doc__)
