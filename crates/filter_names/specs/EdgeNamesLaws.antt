@@ -3,7 +3,7 @@ use mathlib.Core.Path.{_≡_, refl}
 use mathlib.Core.List.{List, [], _∷_}
 use Prim.Native.Nat.{ℕ}
 use Prim.Native.String.{String}
-use Rattle.basis.specs.Refusals.{Answer, gives, refuses}
+use Rattle.basis.specs.Refusals.{gives, refuses}
 use Rattle.its_names_numbers.specs.Numbers.{allDigits, digitsNumber, numberOf, valueOf}
 use Rattle.its_names.specs.StaveNames.{before, behind, feeOfStave, namedFee}
 use Rattle.its_names.specs.StaveNameLaws.{L9-70-refused}

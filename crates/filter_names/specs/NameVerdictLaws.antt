@@ -1,6 +1,6 @@
 -- Laws of stave names and the verdict: the FEE id of a name passes the verdict's tests of a FEE id, and a FEE id that passes them is of a
 -- stave that has a name.
-use mathlib.Core.Path.{_≡_, refl, ap, ap₂, sym, _∙_}
+use mathlib.Core.Path.{_≡_, refl, ap, ap₂, _∙_}
 use mathlib.Core.Bool.{false}
 use mathlib.Core.List.{List}
 use Prim.Native.Nat.{ℕ, _+_, _*_, _^_, _≤_}

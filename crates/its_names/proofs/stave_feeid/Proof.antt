@@ -1,7 +1,7 @@
 -- A number above the highest is refused, whichever of the two it is; others fit into the sum as they are.
 use mathlib.Core.Path.{sym}
 use mathlib.Core.Logic.{⊎-elim}
-use Prim.Native.Nat.{ℕ, _≤_}
+use Prim.Native.Nat.{_≤_}
 use native.Mathlib.Omega.{arith}
 use borrow.Author.Tests.{ltb-true, ltb-false}
 use Rattle.its.specs.FeeIds.{highestLayer, highestStave}
