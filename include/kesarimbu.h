@@ -192,7 +192,7 @@ struct kesarimbu_trigger_counts {
 };
 
 /* What a scan is asked for. Of several filters the first of link, FEE id and stave decides; without any, all headers match. A stave is a
-   FEE id, of which layer and stave are compared. */
+   FEE id, of which layer and stave are compared; kesarimbu_set_stave makes it of a name. */
 struct kesarimbu_settings {
     bool by_link;
     bool by_fee;

@@ -16,6 +16,7 @@ include/kesarimbu.h, whose answers are proved for all values of their arguments:
     fee, fee_id, same_stave, name                   FEE ids and the names of staves
     Validator.check                                 whether a header is sound, and what is wrong with it
     count_triggers, trigger_list, trigger_compare   trigger statistics
+    Settings                                        what a scan is asked for, with a filter by the name of a stave
     examine, load                                   one header, one packet, in a window of a recording
 
 A call that is refused raises `Refused`, with the refusal's number and what belongs to it; in the reply of `examine` and `load` it is the

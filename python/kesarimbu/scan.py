@@ -41,7 +41,7 @@ class Settings:
     stats: bool = True
 
     def __post_init__(self) -> None:
-        if isinstance(self.stave, (str, bytes)):
+        if isinstance(self.stave, (str, bytes)):  # asked now, so that there are no settings of a refused name
             plain.with_stave(structs.Settings(), self.stave)
 
 
