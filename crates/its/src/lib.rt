@@ -39,7 +39,8 @@ pub fn uplink_from_feeid(fee_id: u16) -> u8
     FeeId(fee_id).uplink()
 }
 
-// The FEE id of a layer and a stave, at uplink 0. A layer above 7 or a stave above 63 loses its higher bits.
+// The FEE id of a layer and a stave, at uplink 0. A layer above 7 or a stave above 63 loses its higher bits, as in the Rust; no name is read
+// so.
 pub fn feeid_from_layer_stave(layer: u8, stave: u8) -> u16
     ensures { λ r. ⌜ r ≡ feeIdOf layer stave ⌝ }
 {
