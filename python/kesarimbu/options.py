@@ -83,7 +83,8 @@ def parsers() -> tuple[argparse.ArgumentParser, argparse.ArgumentParser]:
     listed.add_argument("file", metavar="FILE", help="the recording; - for standard input")
     listed.add_argument("--link", metavar="N", type=number_of_8_bits, help="only packets of this link")
     listed.add_argument("--fee", metavar="N", type=number_of_16_bits, help="only packets of this FEE id")
-    listed.add_argument("--stave", metavar="NAME", help="only packets of this stave: L5_42 is stave 42 of layer 5; layers are 0 to 6, staves 0 to 47")
+    listed.add_argument("--stave", metavar="NAME",
+                        help="only packets of this stave: L5_42 is stave 42 of layer 5; layers are 0 to 6, staves 0 to 47")
     listed.add_argument("--version", metavar="N", type=number_of_8_bits,
                         help="the header ID that all headers must have; without it, all must have that of the first packet listed")
     listed.add_argument("--its", action="store_true", help="the system id must be that of the ITS, 32")
