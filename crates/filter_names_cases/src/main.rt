@@ -1,5 +1,5 @@
-// Shows how the crate `filter_names` is used from Rattle: the name of a stave put to filters of which none, the one by stave, or all are set,
-// and which FEE ids they then take on link 2.
+// Shows how the crate `filter_names` is used from Rattle: names of staves, and some of none, put to filters of which none is set or some are;
+// and which of five FEE ids these then take on link 2.
 use filter::FilterOpt;
 use filter::Option8;
 use filter::Option16;
@@ -60,43 +60,44 @@ fn set(opt: FilterOpt, name: &[u8]) {
     cases_show::end();
 }
 
+fn filters(filter_link: Option8, filter_fee: Option16, filter_its_stave: Option16) -> FilterOpt {
+    FilterOpt {
+        filter_link,
+        filter_fee,
+        filter_its_stave,
+    }
+}
+
+fn put_staves(opt: FilterOpt) {
+    set(opt, b"L6_47");
+    set(opt, b"L06_047");
+    set(opt, b"L+6_+47");
+    set(opt, b"L0_0");
+}
+
+fn put_no_staves(opt: FilterOpt) {
+    set(opt, b"L6_48");
+    set(opt, b"L7_0");
+    set(opt, b"L0_48");
+    set(opt, b"L9_70");
+    set(opt, b"L255_255");
+    set(opt, b"L256_0");
+}
+
+fn put_both(opt: FilterOpt) {
+    set(opt, b"L1_6");
+    set(opt, b"L9_70");
+}
+
 fn main() {
-    let unset = FilterOpt {
-        filter_link: Option8::None,
-        filter_fee: Option16::None,
-        filter_its_stave: Option16::None,
-    };
-    set(unset, b"L6_47");
-    set(unset, b"L06_047");
-    set(unset, b"L+6_+47");
-    set(unset, b"L0_0");
-    set(unset, b"L6_48");
-    set(unset, b"L7_0");
-    set(unset, b"L0_48");
-    set(unset, b"L9_70");
-    set(unset, b"L255_255");
-    set(unset, b"L256_0");
-    set(unset, b"L5");
-    set(unset, b"");
-    let of_a_stave = FilterOpt {
-        filter_link: Option8::None,
-        filter_fee: Option16::None,
-        filter_its_stave: Option16::Some(0x602E),
-    };
-    set(of_a_stave, b"L1_6");
-    set(of_a_stave, b"L9_70");
-    let of_all = FilterOpt {
-        filter_link: Option8::Some(2),
-        filter_fee: Option16::Some(0x1006),
-        filter_its_stave: Option16::Some(0x602E),
-    };
-    set(of_all, b"L6_47");
-    set(of_all, b"L7_47");
-    let of_fee_id = FilterOpt {
-        filter_link: Option8::None,
-        filter_fee: Option16::Some(0x1006),
-        filter_its_stave: Option16::None,
-    };
-    set(of_fee_id, b"L6_47");
-    set(of_fee_id, b"L7_47");
+    let unset = filters(Option8::None, Option16::None, Option16::None);
+    put_staves(unset);
+    put_no_staves(unset);
+    put_both(filters(Option8::None, Option16::None, Option16::Some(0x602E)));
+    put_both(filters(Option8::None, Option16::Some(0x602F), Option16::None));
+    put_both(filters(
+        Option8::Some(2),
+        Option16::Some(0x602F),
+        Option16::Some(0x602E),
+    ));
 }
