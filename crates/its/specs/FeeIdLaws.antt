@@ -31,7 +31,7 @@ uplink-kept layer stave l s = omega arith
 
 -- Layer and stave where they stand in a FEE id, all other bits 0.
 abbrev pub layerStave : ℕ → ℕ
-layerStave fee = layerOf fee * 4096 + staveOf fee
+layerStave fee = staveFeeId (layerOf fee) (staveOf fee)
 
 pub made-again : (fee : ℕ) → feeIdOf (layerOf fee) (staveOf fee) ≡ layerStave fee
 made-again fee = omega arith
