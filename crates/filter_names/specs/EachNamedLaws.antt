@@ -10,7 +10,7 @@ use Rattle.basis.specs.PickLaws.{on, by-test}
 use Rattle.basis.specs.Refusals.{gives}
 use Rattle.its.specs.FeeIds.{highestLayer, highestStave, staveFeeId}
 use Rattle.its_names_numbers.specs.Numbers.{valueOf}
-use Rattle.its_names_numbers.specs.NumberGrammar.{Digit, AllDigits, Number, plain}
+use Rattle.its_names_numbers.specs.NumberGrammar.{AllDigits, Digit, Digits, Number, plain}
 use Rattle.its_names_numbers.specs.NumberLaws.{one-more-digit}
 use Rattle.its_names.specs.StaveNames.{namedFee}
 use Rattle.its_names.specs.StaveNameGrammar.{NamesStave}
@@ -19,18 +19,12 @@ use Rattle.text.specs.Ascii.{ascii}
 use Rattle.text_numbers.specs.Numerals.{decimal, glyph, numeral}
 use Rattle.text_numbers.specs.NumeralLaws.{quotient-below}
 
--- The text is digits, at least one, and they spell n.
-pub record Spells (text : List ℕ) (n : ℕ) : Type 0 where
-  pub one-or-more : 0 < length text
-  pub each : AllDigits text
-  pub spell : valueOf text ≡ n
-
 glyph-of : (n : ℕ) → n < 10 → glyph n ≡ 48 + n
 glyph-of n small = on _ _ (lt-ltb n 10 small)
 
-one-digit : (n : ℕ) → n < 10 → Spells (glyph n ∷ []) n
+one-digit : (n : ℕ) → n < 10 → Digits (glyph n ∷ []) n
 unfolding valueOf
-one-digit n small = record { one-or-more = omega arith; each = each; spell = omega (arith, glyph-of n small) }
+one-digit n small = record { one-or-more = omega arith; each = each; spell = omega (arith, glyph-of n small); at-most = omega arith }
   where
     each : AllDigits (glyph n ∷ [])
     each zero below = (omega (arith, glyph-of n small), omega (arith, glyph-of n small))
@@ -44,32 +38,32 @@ all-digits-more (byte ∷ text) digit each last zero below = each 0 (omega arith
 all-digits-more (byte ∷ text) digit each last (suc k) below =
     all-digits-more text digit (λ i within. each (suc i) (omega arith)) last k (omega arith)
 
-digit-more : (text : List ℕ) (n : ℕ) → Spells text (n / 10) → Spells (text ++ (glyph (n % 10) ∷ [])) n
-digit-more text n front =
+digit-more : (text : List ℕ) (n : ℕ) → n ≤ 255 → Digits text (n / 10) → Digits (text ++ (glyph (n % 10) ∷ [])) n
+digit-more text n at-most front =
     let small : n % 10 < 10 = omega arith in
     let byte = glyph-of (n % 10) small in
     record {
       one-or-more = omega (arith, length-append text (glyph (n % 10) ∷ []));
       each = all-digits-more text _ (front .each) (omega (arith, byte), omega (arith, byte));
       spell = one-more-digit text (glyph (n % 10)) ∙ omega (arith, byte, front .spell);
+      at-most = at-most;
     }
 
--- a decimal number spells itself
-numeral-spells : (most n : ℕ) → n < 10 ^ suc most → Spells (numeral 10 (suc most) n) n
+-- a decimal number spells itself, and so is a number of a name up to 255
+numeral-digits : (most n : ℕ) → n < 10 ^ suc most → n ≤ 255 → Digits (numeral 10 (suc most) n) n
 unfolding numeral
-numeral-spells zero n below = by-test (λ (t : List ℕ). Spells t n) (ltb n 10) _ _
+numeral-digits zero n below at-most = by-test (λ (t : List ℕ). Digits t n) (ltb n 10) _ _
     (λ small. one-digit n (ltb-true n 10 small))
     (λ large. absurd (omega (arith, ltb-false n 10 large)))
-numeral-spells (suc most) n below = by-test (λ (t : List ℕ). Spells t n) (ltb n 10) _ _
+numeral-digits (suc most) n below at-most = by-test (λ (t : List ℕ). Digits t n) (ltb n 10) _ _
     (λ small. one-digit n (ltb-true n 10 small))
-    (λ large. digit-more (numeral 10 (suc most) (n / 10)) n (numeral-spells most (n / 10) (quotient-below 10 (suc most) n (omega arith) below)))
+    (λ large.
+    let rest-below = quotient-below 10 (suc most) n (omega arith) below in
+    digit-more (numeral 10 (suc most) (n / 10)) n at-most (numeral-digits most (n / 10) rest-below (omega arith)))
 
--- so it is a number of a name, up to 255
 pub decimal-number : (n : ℕ) → n ≤ 255 → Number (decimal n) n
 unfolding decimal
-decimal-number n small =
-    let digits = numeral-spells 19 n (omega arith) in
-    plain (record { one-or-more = digits .one-or-more; each = digits .each; spell = digits .spell; at-most = small })
+decimal-number n at-most = plain (numeral-digits 19 n (omega arith) at-most)
 
 -- The name of a stave, as `L5_42`.
 abbrev pub nameOf : ℕ → ℕ → List ℕ
