@@ -31,6 +31,14 @@ def composed(recording, version=None, its=False, **settings):
     return "".join(line + "\n" for line in lines).encode(), end.refusal, unsound
 
 
+def threads_left():
+    """How many threads there are beside this one, once there are none, or after ten seconds: one ends a moment after it was told to."""
+    deadline = time.monotonic() + 10
+    while _thread._count() and time.monotonic() < deadline:
+        time.sleep(0.001)
+    return _thread._count()
+
+
 def listed(source, **settings):
     with Listing(source, **settings) as listing:
         return b"".join(listing), listing.refusal, listing.unsound
@@ -149,7 +157,7 @@ class ReadsAhead(unittest.TestCase):
         windows.close()
 
     def test_the_thread_ends(self):
-        before = _thread._count()
+        before = threads_left()
         with file_with(SOUND * 100) as path:
             with Listing(path, window=640, room=1024) as closed:
                 next(iter(closed))
@@ -159,10 +167,7 @@ class ReadsAhead(unittest.TestCase):
             next(iter(forgotten))
             del forgotten
             gc.collect()
-        deadline = time.monotonic() + 10
-        while _thread._count() > before and time.monotonic() < deadline:
-            time.sleep(0.001)
-        self.assertEqual(_thread._count(), before)
+        self.assertEqual(threads_left(), before)
 
 
 if __name__ == "__main__":
