@@ -46,7 +46,8 @@ def made(settings, st, calls):
 
 def line(number, answer, marks, st, ends):
     if answer[0] == "packet":
-        answer = ("packet", answer[3], answer[2].hex())
+        _, _, payload, start, own, _ = answer
+        answer = ("packet", start, own, payload.hex())
     said = " ".join(map(str, ("made", number, *answer)))
     return said + (" cut" if marks.e100 else "") + (
         f", place {st.place} position {st.position} counts {st.seen} {st.filtered} {st.payload}") + (", the end" if ends else "")

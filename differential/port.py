@@ -72,7 +72,7 @@ def digest(content):
 
 
 def answer_lines(answer, shown):
-    """What a call found; `shown` tells bytes."""
+    """What a call found, but for a packet's own position, which the reference lacks; `shown` tells bytes."""
     match answer:
         case Packet(header, payload, position):
             content = f"payload {len(payload)} {shown(payload)}" if len(payload) else "payload 0"
@@ -82,6 +82,11 @@ def answer_lines(answer, shown):
         case Passed():
             return ["passed"]
     return [refused(answer)]
+
+
+def own_lines(answer):
+    """The own position of a packet."""
+    return [f"own {answer.own}"] if isinstance(answer, Packet) else []
 
 
 def mark_lines(marks):
@@ -319,7 +324,8 @@ class Lines:
             raise NoCase
         reply = function(self.settings, self.kept, window, first, last == 1)
         self.kept = reply.kept
-        return answer_lines(reply.answer, lambda content: content.hex()) + mark_lines(reply.marks) + kept_lines(reply.kept)
+        found = answer_lines(reply.answer, lambda content: content.hex()) + own_lines(reply.answer)
+        return found + mark_lines(reply.marks) + kept_lines(reply.kept)
 
 
 SETTINGS = dict(link=or_none(number8), fee=or_none(number16), stave=or_none(number16), skip=flag, stats=flag)

@@ -96,7 +96,8 @@ def count(st, h, marks):
 
 def turn(settings, old, rest, end):
     """Steps 2 to 5 for the header that `rest` starts with: the recording's bytes from the byte place on, 64 or more, which end at the
-    place `end`. Gives answer, marks and state. The answer of a packet ends with how many bytes it takes if `rest` has not all of them."""
+    place `end`. Gives answer, marks and state. The answer of a packet has the start of its load, the position of this header, and at last how
+    many bytes it takes if `rest` has not all of them."""
     st, marks, h = copy.deepcopy(old), Marks(), Header(rest)
     is_first = st.load is None
     start = st.position if is_first else st.load
@@ -153,7 +154,7 @@ def turn(settings, old, rest, end):
     else:
         payload = bytes(rest[64:64 + size])
         st.place += h.memory
-    return ("packet", h, payload, start, 64 + size if is_cut else None), marks, st
+    return ("packet", h, payload, start, old.position, 64 + size if is_cut else None), marks, st
 
 
 def at_end(old, end):
@@ -174,8 +175,8 @@ def examine(settings, old, window, first, last):
     if len(rest) < 64:
         return at_end(old, end) if last else (("want", old.place, 64), Marks(), old)
     answer, marks, st = turn(settings, old, rest, end)
-    if answer[0] == "packet" and answer[4] is not None and not last:
-        return ("want", old.place, answer[4]), Marks(), old
+    if answer[0] == "packet" and answer[-1] is not None and not last:
+        return ("want", old.place, answer[-1]), Marks(), old
     return answer, marks, st
 
 
@@ -220,8 +221,13 @@ def answer_lines(answer, brief):
 
     if answer[0] != "packet":
         return [" ".join(map(str, answer))]
-    _, h, payload, position, _ = answer
+    _, h, payload, position, _, _ = answer
     return [f"packet {position}", f"header {content(h.bytes)}", f"payload {len(payload)} {content(payload)}" if payload else "payload 0"]
+
+
+def own_lines(answer):
+    """The own position of a packet, which a scan that the reference answers too does not tell."""
+    return [f"own {answer[4]}"] if answer[0] == "packet" else []
 
 
 def mark_lines(marks):
@@ -301,7 +307,7 @@ class Lines:
             return ["no case"]
         answer, marks, st = f(self.settings, self.state, window, first, last == 1)
         self.state = copy.deepcopy(st)
-        return answer_lines(answer, False) + mark_lines(marks) + state_lines(st)
+        return answer_lines(answer, False) + own_lines(answer) + mark_lines(marks) + state_lines(st)
 
     def answer(self, line):
         """The lines of a case's answer, or None for a line that sets up."""
@@ -374,7 +380,7 @@ def selftest():
 
         def plain(entry):
             answer, marks, st = entry
-            return answer_lines(answer, False), mark_lines(marks), state_lines(st)
+            return answer_lines(answer, False), own_lines(answer), mark_lines(marks), state_lines(st)
 
         assert [plain(e) for e in expected] == [plain(e) for e in found], trial
     print("3000 passed, 0 failed")

@@ -220,7 +220,8 @@ static void examinations(void)
     CHECK(e.marks.initial && e.marks.trigger_type == 0x4813 && e.marks.data_format == 2 && e.marks.system_id == 32);
     CHECK(e.state.place == SEVENTY_TWO && e.state.position == SEVENTY_TWO && e.state.seen == 1 && e.state.filtered == 0);
     e = kesarimbu_examine(by_link, e.state, lent.links, lent.fee_ids, PLACES, r.bytes + 1, sizeof r.bytes - 1, 1, true, lent.header);
-    CHECK(e.answer.kind == KESARIMBU_PACKET && e.answer.position == 0 && e.answer.payload_length == 0 && !e.marks.initial);
+    CHECK(e.answer.kind == KESARIMBU_PACKET && e.answer.position == 0 && e.answer.own == SEVENTY_TWO);
+    CHECK(e.answer.payload_length == 0 && !e.marks.initial);
     CHECK(memcmp(lent.header, r.bytes + SEVENTY_TWO, sizeof lent.header) == 0 && !e.state.load_open);
     CHECK(e.state.links_used == 2 && lent.links[0] == 2 && lent.links[1] == 3);
     CHECK(e.state.fee_ids_used == 2 && lent.fee_ids[0] == 0x502A && lent.fee_ids[1] == 0x1001 && lent.fee_ids[2] == 0);
@@ -236,8 +237,10 @@ static void loads(void)
     struct kesarimbu_reply l = {0};
     l = kesarimbu_load(settings, l.state, lent.links, lent.fee_ids, PLACES, r.bytes, sizeof r.bytes - 1, 0, true, lent.header);
     CHECK(l.answer.kind == KESARIMBU_PACKET && l.answer.payload_start == 64 && l.answer.payload_length == 8);
+    CHECK(l.answer.position == 0 && l.answer.own == 0);
     l = kesarimbu_load(settings, l.state, lent.links, lent.fee_ids, PLACES, r.bytes, sizeof r.bytes - 1, 0, true, lent.header);
-    CHECK(l.answer.kind == KESARIMBU_PACKET && l.answer.position == SEVENTY_TWO && l.answer.payload_length == 0 && l.marks.payload_cut);
+    CHECK(l.answer.kind == KESARIMBU_PACKET && l.answer.payload_length == 0 && l.marks.payload_cut);
+    CHECK(l.answer.position == SEVENTY_TWO && l.answer.own == SEVENTY_TWO + KESARIMBU_HEADER_SIZE);
     CHECK(l.state.seen == 3 && l.state.filtered == 2 && l.state.payload == 16);
     l = kesarimbu_load(settings, l.state, lent.links, lent.fee_ids, PLACES, r.bytes, sizeof r.bytes - 1, 0, true, lent.header);
     CHECK(l.answer.kind == KESARIMBU_REFUSED && l.answer.refusal == KESARIMBU_END);
@@ -266,6 +269,18 @@ static void listings(void)
     l = kesarimbu_list(settings, l.state, l.validator, lent.links, lent.fee_ids, PLACES, r.bytes, sizeof r.bytes, 0, true, out, sizeof out);
     CHECK(l.answer.kind == KESARIMBU_REFUSED && l.answer.refusal == KESARIMBU_END && l.unsound == 0 && l.state.seen == 3);
     CHECK(memcmp(out, "0x48: 7 ", 8) == 0 && memcmp(out + l.length - strlen(last), last, strlen(last)) == 0);
+}
+
+/* With a filter a line has the packet's own position, and not that of the header which was passed before it. */
+static void filtered_listings(void)
+{
+    struct recording r = recorded();
+    struct lent lent = {{0}, {0}, {0}};
+    struct kesarimbu_settings by_link = {.by_link = true, .link = 3, .stats = true};
+    struct kesarimbu_listed l = {0};
+    uint8_t out[TEXT];
+    l = kesarimbu_list(by_link, l.state, l.validator, lent.links, lent.fee_ids, PLACES, r.bytes, sizeof r.bytes, 0, true, out, sizeof out);
+    CHECK(l.answer.refusal == KESARIMBU_END && l.state.filtered == 1 && memcmp(out, "0x48: 7 ", 8) == 0);
 }
 
 #define SIZE(s) printf("struct %s size %zu\n", #s, sizeof(struct s))
@@ -384,6 +399,7 @@ static void layout_of_a_scan(void)
     FIELD(kesarimbu_state, load_open);
     SIZE(kesarimbu_answer);
     FIELD(kesarimbu_answer, position);
+    FIELD(kesarimbu_answer, own);
     FIELD(kesarimbu_answer, want_place);
     FIELD(kesarimbu_answer, want_size);
     FIELD(kesarimbu_answer, payload_start);
@@ -436,6 +452,7 @@ int main(int argc, char **argv)
     examinations();
     loads();
     listings();
+    filtered_listings();
     printf("%d passed, %d failed\n", passed, failed);
     return failed != 0;
 }

@@ -227,6 +227,7 @@ struct kesarimbu_state {
 /* What a call found. What its kind does not have is 0. */
 struct kesarimbu_answer {
     uint64_t position;     /* packet: the position at its load's start; refusal 2: that of the refused header */
+    uint64_t own;          /* packet: its own position, where its header stands */
     uint64_t want_place;   /* want: the byte place from which bytes are lacking .. */
     uint64_t want_size;    /* .. and how many there must be from there on */
     size_t payload_start;  /* packet: where in the window its payload is; 0 long if it is skipped or cut */
@@ -322,10 +323,10 @@ struct kesarimbu_reply kesarimbu_load(struct kesarimbu_settings settings, struct
                                       uint16_t *fee_ids, size_t places, const uint8_t *window, size_t length, uint64_t first, bool last,
                                       uint8_t *header);
 
-/* Lists packets: loads one after the other, and writes each packet's row, and its verdict if it is not sound, a line each, at the start of
-   `out`, until a load finds no packet, or `out` might not hold the next lines. A refusal 1 to 4 or 6 adds the last lines, with the counts.
-   Marks are not told. Call it again with what came back, and with a buffer to fill anew, as long as the kind is KESARIMBU_FULL or
-   KESARIMBU_WANT. */
+/* Lists packets: loads one after the other, and writes each packet's row, and its verdict if it is not sound, a line each with the packet's
+   own position, at the start of `out`, until a load finds no packet, or `out` might not hold the next lines. A refusal 1 to 4 or 6 adds the
+   last lines, with the counts. Marks are not told. Call it again with what came back, and with a buffer to fill anew, as long as the kind is
+   KESARIMBU_FULL or KESARIMBU_WANT. */
 struct kesarimbu_listed kesarimbu_list(struct kesarimbu_settings settings, struct kesarimbu_state state,
                                        struct kesarimbu_validator validator, uint8_t *links, uint16_t *fee_ids, size_t places,
                                        const uint8_t *window, size_t length, uint64_t first, bool last, uint8_t *out, size_t room);

@@ -6,7 +6,7 @@ The friendly layer reads whole recordings:
     import kesarimbu
     with kesarimbu.packets("recording.raw", stave="L5_42") as packets:
         for packet in packets:
-            print(packet.position, packet.header.orbit, len(packet.payload))
+            print(packet.own, packet.header.orbit, len(packet.payload))
     print(packets.end.refusal, packets.end.seen)
 
 and `Listing`, or `python3 -m kesarimbu list recording.raw`, lists one. The exact layer is one to one with the functions of

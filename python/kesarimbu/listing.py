@@ -27,8 +27,8 @@ class Listing:
     """The listing of a recording: to be iterated over once, for chunks of bytes that are whole lines.
 
     `source` and the settings are those of `packets`; `version` and `its` those of `Validator`. The lines are those that the listing program
-    prints: position and row of each packet, a further line with position and verdict if it is not sound, and at the end the counts and the
-    refusal's number.
+    prints: own position and row of each packet, a further line with that position and the verdict if it is not sound, and at the end the
+    counts and the refusal's number.
 
     `refusal` is None until the iteration has come to its end. `unsound` is how many of the packets listed so far are not sound, and `place`
     the byte place that was reached.

@@ -16,8 +16,8 @@ data header (RDH). `COMMAND --help` says more of a command.
 """
 
 LIST_DESCRIPTION = """\
-Lists a recording: a line for each packet, with its position in the recording and these fields of
-its header:
+Lists a recording: a line for each packet, with the position of its header in the recording, with a
+filter too, and these fields of the header:
 
   header ID, header size, FEE id, system id, offset to the next packet, link, packet counter,
   bunch counter, orbit, data format, trigger type, pages counter, stop bit, detector field

@@ -94,19 +94,20 @@ def packets(source: Source, *, link: int | None = None, fee: int | None = None, 
     does not hold of them is not read if the file can seek. With `stats=False` headers are not counted, and links and FEE ids not listed.
     `places` is how many FEE ids can be listed, and `window` how many bytes are read at a time.
 
-    Each `Packet` has `header`, `payload` (a part of the window that was read, without a copy; it stays good) and `position`. The iteration
-    stops at the recording's end, or at a header that cannot be followed; then `end` has the refusal, the counts and the lists.
+    Each `Packet` has `header`, `payload` (a part of the window that was read, without a copy; it stays good), `own`, where its header
+    stands, and `position`, where the search for it began. The iteration stops at the recording's end, or at a header that cannot be
+    followed; then `end` has the refusal, the counts and the lists.
 
     >>> import io
     >>> from kesarimbu import Header
     >>> first = bytes(Header(fee_id=0x502A, link_id=2, offset_new_packet=68, memory_size=68)) + b"data"
     >>> other = bytes(Header(fee_id=0x0006, link_id=3, offset_new_packet=64, memory_size=64))
-    >>> found = packets(io.BytesIO(first + other), stave="L5_42")
+    >>> found = packets(io.BytesIO(other + first), stave="L5_42")
     >>> for packet in found:
-    ...     print(hex(packet.header.fee_id), bytes(packet.payload), packet.position)
-    0x502a b'data' 0
+    ...     print(hex(packet.header.fee_id), bytes(packet.payload), packet.own, packet.position)
+    0x502a b'data' 64 0
     >>> found.end.refusal, found.end.seen, found.end.filtered, found.end.links
-    (Refused(1), 2, 1, (2, 3))
+    (Refused(1), 2, 1, (3, 2))
 
     Windows are read, not mapped: a mapped file that somebody cuts meanwhile kills the process, and bytes that change under a proved
     function break its promise. A file that was opened here is closed at the end of the iteration; where that may not be reached:

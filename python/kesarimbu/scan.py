@@ -118,11 +118,16 @@ class Marks:
 
 @dataclass(frozen=True)
 class Packet:
-    """A packet: its header, its payload as a part of the window (empty if it is skipped or cut), and the position at its load's start."""
+    """A packet: its header, its payload as a part of the window (empty if it is skipped or cut), and two positions.
+
+    `position` is where its load started: with a filter that may be the first header that was passed on the way to it. `own` is where its own
+    header stands. A scan without a filter gives the same number for both.
+    """
 
     header: Header
     payload: memoryview
     position: int
+    own: int
 
 
 @dataclass(frozen=True)
@@ -202,10 +207,10 @@ class Scan:
         return self._answer()
 
     def _answer(self) -> Answer:
-        position, want_place, want_size, start, length, kind, _, _ = _ANSWER.unpack_from(self._reply)
+        position, own, want_place, want_size, start, length, kind, _, _ = _ANSWER.unpack_from(self._reply)
         if kind == structs.PACKET:
             header = decode_lent(self._header, structs.HEADER_SIZE)
-            return Packet(header, self._view[start:start + length], position)
+            return Packet(header, self._view[start:start + length], position, own)
         if kind == structs.WANT:
             return Want(want_place, want_size)
         if kind == structs.REFUSED:
@@ -251,6 +256,13 @@ def load(settings: Settings, kept: Kept, window: Readable, first: int, last: boo
     Refused(1)
     >>> load(Settings(), Kept(), recording[:65], 0, False).answer
     Want(place=0, size=66)
+
+    A load that passes headers starts at the first of them:
+
+    >>> wanted = bytes(Header(link_id=3, offset_new_packet=64, memory_size=64))
+    >>> packet = load(Settings(link=3), Kept(), recording + wanted, 0, True).answer
+    >>> packet.position, packet.own
+    (0, 66)
     """
     scan = Scan(settings, kept)
     scan.lend(window, first, last)

@@ -141,6 +141,7 @@ class State(Structure):
 class Answer(Structure):
     _fields_ = [
         ("position", c_uint64),
+        ("own", c_uint64),
         ("want_place", c_uint64),
         ("want_size", c_uint64),
         ("payload_start", c_size_t),

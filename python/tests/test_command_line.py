@@ -7,6 +7,7 @@ import subprocess
 import sys
 import unittest
 
+from kesarimbu import decode, row
 from kesarimbu.__main__ import main, options_of
 from kesarimbu.options import understood
 from .differential import ROOT
@@ -32,6 +33,22 @@ NO_STAVE = header(fee_id=0x6030)
 VERSION_6 = header(header_id=6)
 NOT_ITS = header(system_id=33)
 LAST_LINES = b"seen %d\nfiltered %d\npayload %d\nend %d\n"
+# Words that set a filter, and the headers that it takes.
+FILTERS = [
+    ([], lambda found: True),
+    (["--link", "4"], lambda found: found.link_id == 4),
+    (["--fee", "0x522A"], lambda found: found.fee_id == 0x522A),
+    (["--stave", "L0_6"], lambda found: found.fee_id & 0x703F == 0x0006),
+    (["--stave", "L5_42", "--no-payload"], lambda found: found.fee_id & 0x703F == 0x502A),
+]
+
+
+def chain_of(recording):
+    """Place and header of each packet of a recording whose packets follow one another without a gap, up to an offset that is bad."""
+    place = 0
+    while 64 <= decode(recording[place:]).offset_new_packet <= 10_064:
+        yield place, decode(recording[place:])
+        place += decode(recording[place:]).offset_new_packet
 
 
 def run_here(*words):
@@ -97,7 +114,19 @@ class Lists(unittest.TestCase):
             with self.subTest(words):
                 status, output = self.listed(recording, *words)
                 self.assertEqual((status, output.splitlines()[1:]), (0, (LAST_LINES % (3, 1, 0, 1)).splitlines()))
-                self.assertTrue(output.startswith(b"0x0: 7     64     6 "))
+                self.assertTrue(output.startswith(b"0x40: 7     64     6 "))
+
+    def test_each_packet_is_found_where_its_line_says(self):
+        """With a filter too: a person looks a packet up at the position printed, by its row or its verdict, and finds that header."""
+        recording = SAMPLE.read_bytes()
+        for words, takes in FILTERS:
+            with self.subTest(words):
+                lines = [line.split(": ", 1) for line in self.listed(recording, *words)[1].decode().splitlines()[:-4]]
+                rows = [(int(at, 16), text) for at, text in lines if not text.startswith("[E10]")]
+                self.assertEqual(rows, [(place, row(found)) for place, found in chain_of(recording) if takes(found)])
+                self.assertGreater(len(rows), 4)
+                for (at, text), (before, _) in zip(lines[1:], lines):
+                    self.assertEqual(at == before, text.startswith("[E10]"))
 
     def test_a_version(self):
         for version, status in (("6", 0), ("0x06", 0), ("7", 1)):

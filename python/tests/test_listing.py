@@ -22,9 +22,9 @@ def composed(recording, version=None, its=False, **settings):
     found = packets(io.BytesIO(recording), **settings)
     for packet in found:
         verdict = validator.check(packet.header)
-        lines.append(f"0x{packet.position:X}: {row(packet.header)}")
+        lines.append(f"0x{packet.own:X}: {row(packet.header)}")
         if not verdict.sound:
-            lines.append(f"0x{packet.position:X}: {verdict.text}")
+            lines.append(f"0x{packet.own:X}: {verdict.text}")
             unsound += 1
     end = found.end
     lines += [f"seen {end.seen}", f"filtered {end.filtered}", f"payload {end.payload}", f"end {end.refusal.number}"]

@@ -62,10 +62,10 @@ def defined(recording):
         kept, found = reply.kept, reply.answer
         if not isinstance(found, Packet):
             break
-        lines.append(f"0x{found.position:X}: {row(found.header)}")
+        lines.append(f"0x{found.own:X}: {row(found.header)}")
         verdict = validator.check(found.header)
         if not verdict.sound:
-            lines.append(f"0x{found.position:X}: {verdict.text}")
+            lines.append(f"0x{found.own:X}: {verdict.text}")
     lines += [f"seen {kept.seen}", f"filtered {kept.filtered}", f"payload {kept.payload}", f"end {found.number}"]
     return "".join(line + "\n" for line in lines).encode()
 

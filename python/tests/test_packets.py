@@ -5,7 +5,7 @@ import os
 import unittest
 
 import kesarimbu
-from kesarimbu import End, Initial, Kept, Marks, Packet, Refused, Settings, packets
+from kesarimbu import End, Initial, Kept, Marks, Packet, Passed, Refused, Settings, packets
 from .differential import ROOT
 from .sources import Noting, Pieces, file_with, pipe_with
 from make_recordings import every, header
@@ -35,14 +35,14 @@ def read(source, **settings):
 
 
 def told(found):
-    """What a test compares of packets."""
-    return [(packet.position, packet.header.link_id, bytes(packet.payload)) for packet in found]
+    """What a test compares of packets: where their loads started, where they stand, and what they are."""
+    return [(packet.position, packet.own, packet.header.link_id, bytes(packet.payload)) for packet in found]
 
 
 class ByHand(unittest.TestCase):
     def test_a_recording(self):
         found, end = read(io.BytesIO(RECORDING))
-        self.assertEqual(told(found), [(0, 2, b"data"), (68, 3, b""), (132, 4, b"end")])
+        self.assertEqual(told(found), [(0, 0, 2, b"data"), (68, 68, 3, b""), (132, 132, 4, b"end")])
         self.assertEqual([packet.header.orbit for packet in found], [0, 9, 0])
         self.assertEqual(end, End(Refused(1), 3, 0, 7, (2, 3, 4), (0x502A, 0x0006, 0x522A), Marks(INITIAL)))
 
@@ -53,25 +53,25 @@ class ByHand(unittest.TestCase):
 
     def test_a_payload_that_is_cut_is_empty_and_marked(self):
         found, end = read(io.BytesIO(FIRST[:-1]))
-        self.assertEqual(told(found), [(0, 2, b"")])
+        self.assertEqual(told(found), [(0, 0, 2, b"")])
         self.assertEqual((end.refusal, end.payload, end.marks), (Refused(1), 4, Marks(INITIAL, e100=True)))
 
     def test_a_payload_that_is_skipped_is_not_cut(self):
         found, end = read(io.BytesIO(FIRST[:-1]), skip_payload=True)
-        self.assertEqual((told(found), end.marks), ([(0, 2, b"")], Marks(INITIAL)))
+        self.assertEqual((told(found), end.marks), ([(0, 0, 2, b"")], Marks(INITIAL)))
 
     def test_a_link(self):
         found, end = read(io.BytesIO(RECORDING), link=3)
-        self.assertEqual((told(found), end.seen, end.filtered), ([(0, 3, b"")], 3, 1))
+        self.assertEqual((told(found), end.seen, end.filtered), ([(0, 68, 3, b"")], 3, 1))
 
     def test_a_fee_id(self):
         found, _ = read(io.BytesIO(RECORDING), fee=0x522A)
-        self.assertEqual(told(found), [(0, 4, b"end")])
+        self.assertEqual(told(found), [(0, 132, 4, b"end")])
 
     def test_a_stave_by_name_or_fee_id(self):
         for stave in ("L5_42", b"L5_42", 0x502A, 0x512A):
             found, end = read(io.BytesIO(RECORDING), stave=stave)
-            self.assertEqual((told(found), end.filtered), ([(0, 2, b"data"), (68, 4, b"end")], 2))
+            self.assertEqual((told(found), end.filtered), ([(0, 0, 2, b"data"), (68, 132, 4, b"end")], 2))
 
     def test_without_statistics(self):
         found, end = read(io.BytesIO(RECORDING), stats=False)
@@ -169,6 +169,50 @@ class Sources(unittest.TestCase):
         for source in (io.BytesIO(FIRST + SECOND[:-1]), io.BytesIO(header(offset=500)), Pieces(header(offset=500))):
             found, end = read(source, skip_payload=True, window=64)
             self.assertEqual((len(found), end.refusal), (1, Refused(1)))
+
+
+def passed_offsets(recording, settings):
+    """For each packet of a recording, the offsets of the headers that are passed on the way to it: by one examination after the other."""
+    kept, offsets, found = Kept(fee_ids=[0] * 4096), [], []
+    while True:
+        place = kept.place
+        answer, _, kept = kesarimbu.examine(settings, kept, recording, 0, True)
+        if isinstance(answer, Passed):
+            offsets.append(kesarimbu.decode(recording[place:]).offset_new_packet)
+        elif isinstance(answer, Packet):
+            found.append(offsets)
+            offsets = []
+        else:
+            return found
+
+
+class OwnPositions(unittest.TestCase):
+    """Where a packet stands, and where the search for it began."""
+
+    def test_a_packet_stands_at_its_own_position(self):
+        recording = (FIRST + SECOND + THIRD) * 20
+        for settings in ({}, {"link": 3}, {"fee": 0x522A}, {"stave": "L5_42"}, {"stave": "L0_6", "skip_payload": True}):
+            found, _ = read(io.BytesIO(recording), window=100, **settings)
+            with self.subTest(**settings):
+                self.assertGreaterEqual(len(found), 20)
+                self.assertEqual([recording[packet.own:packet.own + 64] for packet in found], [bytes(packet.header) for packet in found])
+
+    def test_between_the_two_are_the_offsets_passed(self):
+        turns = itertools.cycle([{"link": 1}, {"stave": 0x502A}, {"link": 2, "skip_payload": True}, {"fee": 6, "stats": False}, {}])
+        most = 0
+        for (name, recording), settings in zip(every(7), turns):
+            found, _ = read(io.BytesIO(recording), window=300, **settings)
+            passed = passed_offsets(recording, Settings(**settings))
+            with self.subTest(name, **settings):
+                self.assertEqual([packet.own - packet.position for packet in found], list(map(sum, passed)))
+            most = max([most, *map(len, passed)])
+        self.assertGreater(most, 2)
+
+    def test_without_a_filter_they_are_the_same(self):
+        for name, recording in every(8):
+            found, _ = read(io.BytesIO(recording), window=200)
+            with self.subTest(name):
+                self.assertEqual([packet.own for packet in found], [packet.position for packet in found])
 
 
 class LikeTheExactLayer(unittest.TestCase):

@@ -52,32 +52,32 @@ class Replies(unittest.TestCase):
                 self.check(call, *call_and_reply)
 
     def test_packet(self):
-        self.both(Settings(), BEGIN, one(), 0, False, Packet(header(), memoryview(b"payload!"), 0), INITIAL,
+        self.both(Settings(), BEGIN, one(), 0, False, Packet(header(), memoryview(b"payload!"), 0, 0), INITIAL,
                   replace(COUNTED, place=72, position=72, payload=8))
 
     def test_packet_with_payload_skipped(self):
         """The place moves by the offset, and not by the memory size; payload is counted all the same."""
-        self.both(Settings(skip_payload=True), BEGIN, one(offset=100), 0, False, Packet(header(offset=100), memoryview(b""), 0), INITIAL,
+        self.both(Settings(skip_payload=True), BEGIN, one(offset=100), 0, False, Packet(header(offset=100), memoryview(b""), 0, 0), INITIAL,
                   replace(COUNTED, place=100, position=100, payload=8))
 
     def test_packet_without_stats(self):
-        self.both(Settings(stats=False), BEGIN, one(), 0, False, Packet(header(), memoryview(b"payload!"), 0), Marks(),
+        self.both(Settings(stats=False), BEGIN, one(), 0, False, Packet(header(), memoryview(b"payload!"), 0, 0), Marks(),
                   replace(BEGIN, place=72, position=72))
 
     def test_packet_that_is_filtered(self):
         for settings in (Settings(link=2), Settings(fee=0x502A), Settings(stave=0x532A), Settings(link=2, fee=1, stave=1),
                          Settings(fee=0x502A, stave=1)):
             with self.subTest(settings):
-                self.both(settings, BEGIN, one(), 0, False, Packet(header(), memoryview(b"payload!"), 0), INITIAL,
+                self.both(settings, BEGIN, one(), 0, False, Packet(header(), memoryview(b"payload!"), 0, 0), INITIAL,
                           replace(COUNTED, place=72, position=72, payload=8, filtered=1))
 
     def test_packet_that_is_cut(self):
-        self.both(Settings(), BEGIN, one()[:71], 0, True, Packet(header(), memoryview(b""), 0), replace(INITIAL, e100=True),
+        self.both(Settings(), BEGIN, one()[:71], 0, True, Packet(header(), memoryview(b""), 0, 0), replace(INITIAL, e100=True),
                   replace(COUNTED, place=71, position=72, payload=8))
 
     def test_packet_of_an_open_load(self):
-        """It has the position of the load's start, is no first header, and closes the load."""
-        self.both(Settings(), replace(BEGIN, load=5, position=0), one(), 0, False, Packet(header(), memoryview(b"payload!"), 5), Marks(),
+        """It has the position of the load's start, which may be any, and its own; it is no first header, and closes the load."""
+        self.both(Settings(), replace(BEGIN, load=5, position=0), one(), 0, False, Packet(header(), memoryview(b"payload!"), 5, 0), Marks(),
                   replace(COUNTED, place=72, position=72, payload=8))
 
     def test_passed(self):
@@ -88,7 +88,7 @@ class Replies(unittest.TestCase):
 
     def test_load_over_passed_headers(self):
         recording = one(link=1, fee_id=7) + one(link=1, fee_id=7, number=1) + one(number=2)
-        self.check(kesarimbu.load, Settings(link=2), BEGIN, recording, 0, False, Packet(header(number=2), memoryview(b"payload!"), 0),
+        self.check(kesarimbu.load, Settings(link=2), BEGIN, recording, 0, False, Packet(header(number=2), memoryview(b"payload!"), 0, 144),
                    INITIAL, Kept(place=216, position=216, seen=3, filtered=1, payload=8, links=links(1, 2), links_used=2,
                                  fee_ids=array("H", [7, 0x502A, 0xEEEE, 0xEEEE]), fee_ids_used=2))
 
@@ -145,7 +145,7 @@ class Replies(unittest.TestCase):
     def test_carries(self):
         """Counts that come to 2^32 - 1 go to 0 and are marked."""
         self.both(Settings(link=2), replace(BEGIN, seen=FULL, filtered=FULL, payload=FULL - 7), one(), 0, True,
-                  Packet(header(), memoryview(b"payload!"), 0), replace(INITIAL, seen=1, filtered=True, payload=True),
+                  Packet(header(), memoryview(b"payload!"), 0, 0), replace(INITIAL, seen=1, filtered=True, payload=True),
                   replace(COUNTED, place=72, position=72, seen=0))
 
     def test_numbers_at_their_largest(self):
@@ -166,7 +166,7 @@ class Lent(unittest.TestCase):
                        array("I", recording), apart, memoryview(b"x" + recording)[1:], memoryview(bytearray(b"x" + recording))[1:]):
             with self.subTest(kind=type(window)):
                 reply = kesarimbu.load(Settings(), Kept(), window, 0, True)
-                self.assertEqual(reply.answer, Packet(header(), memoryview(b"payload!"), 0))
+                self.assertEqual(reply.answer, Packet(header(), memoryview(b"payload!"), 0, 0))
                 self.assertIsInstance(reply.answer.payload, memoryview)
 
     def test_payload_is_a_part_of_the_window(self):

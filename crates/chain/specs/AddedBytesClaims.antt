@@ -19,7 +19,7 @@ use Rattle.chain.specs.Chain.{Kept, chain, left, placeOf}
 abbrev pub exceptPlace : State → State
 exceptPlace = withPlace 0
 
--- What is handed out, with no payload.
+-- What is handed out, with no payload: its header and both of its positions stay.
 abbrev pub emptied : Handed (List ℕ) → Handed (List ℕ)
 emptied = handedAs {Q = List ℕ} (λ (payload : List ℕ). [])
 

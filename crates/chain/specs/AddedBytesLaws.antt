@@ -55,7 +55,7 @@ module _ (longer : List ℕ) (set : Settings) (k : Kept) (h : RdhCru) (rest : Li
       let p = k .state .progress in
       let rest′ = drop (placeOf k) longer in
       record {
-        packet = _;
+        packet = record { header = h; payload = payloadOf skip HandedOut h rest′; position = startOf (p .load) (p .position); own = p .position };
         empty = ap (λ (l : List ℕ). answerIn HandedOut h l (startOf (p .load) (p .position)) (p .position)) (cut-empty skip HandedOut h rest e);
         filled = refl;
         whole = λ uncut. record { size = whole-size skip h rest′ read uncut; bytes = whole-bytes longer skip h k read uncut };

@@ -4,16 +4,19 @@ pub mod Walk
 pub mod Following
 pub mod Calls
 pub mod PacketLists
+pub mod OwnPositions
 -- What is stated.
 pub mod ChainEntriesClaims
 pub mod SkipsClaims
 pub mod CallsFollowClaims
 pub mod PacketsClaims
+pub mod OwnPositionsClaims
 pub mod AddedBytesClaims
 -- Why it holds.
 pub mod ChainLaws
 pub mod ChainEntriesLaws
 pub mod WalkLaws
+pub mod NextLaws
 pub mod SkipsLaws
 pub mod FollowingLaws
 pub mod CallsLaws
@@ -22,4 +25,5 @@ pub mod ExaminationLaws
 pub mod LoadLaws
 pub mod CallsFollowLaws
 pub mod PacketsLaws
+pub mod OwnPositionsLaws
 pub mod AddedBytesLaws

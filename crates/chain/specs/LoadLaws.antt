@@ -46,7 +46,7 @@ passed-read w (gives (handed p)) = refl
 passed-read w (gives (wants place size)) = refl
 passed-read w (refuses number values) = refl
 
-not-refused : {P : Type 0} (a : Answer (Found P)) → isPassed a ≡ true → isRefused a ≡ false
+pub not-refused : {P : Type 0} (a : Answer (Found P)) → isPassed a ≡ true → isRefused a ≡ false
 not-refused (gives found) e = refl
 not-refused (refuses number values) e = absurd (false≢true e)
 

@@ -6,23 +6,25 @@ use mathlib.Core.Path.{_≡_, refl, ap, sym, _∙_}
 use mathlib.Core.List.{List, [], _∷_, _++_, append-assoc, append-nil, flatMap}
 use native.Mathlib.Omega.{arith}
 use borrow.Author.Tests.{not-true}
-use lib.ListN.{length, drop}
+use lib.ListN.{length}
 use Rattle.basis.specs.Pick.{pick}
 use Rattle.basis.specs.PickLaws.{both, by-test, off, on}
 use Rattle.basis.specs.Refusals.{Answer, gives, refuses}
 use Rattle.rdh.specs.declared.rdh_cru.RdhCru.{RdhCru}
 use Rattle.scan_cdp.specs.Answers.{Found, handed, passed, wants}
 use Rattle.scan_cdp.specs.Loads.{isPassed, noLoadMarks, together}
-use Rattle.scan_cdp.specs.Steps.{Entry, ended, unchanged}
+use Rattle.scan_cdp.specs.Steps.{Entry, unchanged}
 use Rattle.scan_cdp.specs.Outcomes.{isMatch}
 use Rattle.scan_cdp.specs.declared.LoadMarks.{LoadMarks}
+use Rattle.scan_cdp.specs.declared.OpenLoad.{OpenLoad}
 use Rattle.scan_cdp.specs.declared.Settings.{Settings}
-use Rattle.scan_laws.specs.StepLaws.{entry-cases, step-cases}
 use Rattle.chain.specs.Calls.{Call, Hold, Reply, Served, Window, along, replyAnswer, examination, examinedBy, examines, free, held, heldBack, keptBy, loadAlong, loadedBy, loads, replies, servedBy, toCome}
 use Rattle.chain.specs.CallsLaws.{held-cases}
-use Rattle.chain.specs.Chain.{Kept, chain, isRefused, left, next, placeOf}
+use Rattle.chain.specs.Chain.{Kept, chain, isRefused, left, next}
 use Rattle.chain.specs.CallsFollowLaws.{calls-follow, leaves-rest}
 use Rattle.chain.specs.Following.{cutInto, leftOver}
+use Rattle.chain.specs.NextLaws.{Tells, next-tells}
+use Rattle.chain.specs.OwnPositions.{openAt, positionOf}
 use Rattle.chain.specs.PacketLists.{Packet, headersOf, isHeld, matchIn, matching, noneHeld, packetIn, packetsIn, packetsOf}
 use Rattle.chain.specs.PacketsClaims.{EachOnce, ExactlyMatching, MatchingInTurn, NoneMissing, ReachesEnd}
 use Rattle.chain.specs.Walk.{headerAt}
@@ -95,29 +97,13 @@ each-once recording set start calls windows =
 
 -- ---- exactly the matching headers
 
--- what an answer says of the header at the place
-abbrev Tells : Settings → RdhCru → Answer (Found (List ℕ)) → Type 0
-Tells set h (gives passed) = isMatch set h ≡ false
-Tells set h (gives (handed p)) = (p .header ≡ h) × (isMatch set h ≡ true)
-Tells set h (gives (wants place size)) = ⊥
-Tells set h (refuses number values) = Unit {0}
-
-next-tells : (recording : List ℕ) (set : Settings) (k : Kept) → Tells set (headerAt recording k) (next recording set k .answer)
-unfolding ended
-next-tells recording set k =
-    let rest = drop (placeOf k) recording in
-    step-cases set (k .state) (k .feeIds) rest (length recording) (λ e. Tells set (headerAt recording k) (e .answer))
-    (λ six. tt) (λ usable short. tt) (λ usable whole.
-    entry-cases set (k .state) (k .feeIds) rest (length recording) (Tells set (headerAt recording k))
-    (λ number values r. tt) (λ other. other .other) (λ p same taken. (same, taken .taken)))
-
 -- the header that an answer hands out is the one that is due
-header-told : (set : Settings) (h : RdhCru) (a : Answer (Found (List ℕ))) → Tells set h a
-    → headersOf (packetIn a) ≡ pick (not (isRefused a) && isMatch set h) (h ∷ []) []
-header-told set h (gives passed) other = sym (off _ _ other)
-header-told set h (gives (handed p)) (same, taken) = ap (λ (x : RdhCru). x ∷ []) same ∙ sym (on _ _ taken)
-header-told set h (gives (wants place size)) told = absurd told
-header-told set h (refuses number values) told = refl
+header-told : (set : Settings) (k : Kept) (h : RdhCru) (position : ℕ) (load : OpenLoad) (a : Answer (Found (List ℕ)))
+    → Tells set k h position load a → headersOf (packetIn a) ≡ pick (not (isRefused a) && isMatch set h) (h ∷ []) []
+header-told set k h position load (gives passed) told = sym (off _ _ (told .other))
+header-told set k h position load (gives (handed p)) told = ap (λ (x : RdhCru). x ∷ []) (told .header) ∙ sym (on _ _ (told .taken))
+header-told set k h position load (gives (wants place size)) told = absurd told
+header-told set k h position load (refuses number values) told = refl
 
 headers-both : (ps qs : List Packet) → headersOf (ps ++ qs) ≡ headersOf ps ++ headersOf qs
 headers-both [] qs = refl
@@ -137,7 +123,8 @@ exactly-matching recording set start =
     headers-in (chain recording set start)
     ∙ entries-collected headersIn recording set start
     ∙ same-collected (λ m. headersIn (m .entry)) (matchIn set) recording set start (λ k.
-    header-told set (headerAt recording k) (next recording set k .answer) (next-tells recording set k))
+    let e = next recording set k in
+    header-told set k (headerAt recording k) (positionOf (left e) .0) (openAt (left e)) (e .answer) (next-tells recording set k))
 
 -- ---- the matching headers, each in its turn
 

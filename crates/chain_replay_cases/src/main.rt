@@ -115,6 +115,7 @@ fn answered(recording: &[u8], window: Part, found: LoadCdp) {
         LoadCdp::Packet(packet) => {
             cases_show::text(b" packet");
             cases_show::number(packet.position.0);
+            cases_show::number(packet.own.0);
             let payload = packet.payload;
             cases_show::bytes(chain_replay_calls::payload(recording, window, payload));
         }

@@ -2,6 +2,7 @@
 use Rattle.chain.specs.AddedBytesClaims.{AddedBytes}
 use Rattle.chain.specs.CallsFollowClaims.{CallsFollow, LeavesRest}
 use Rattle.chain.specs.ChainEntriesClaims.{Allowance, EntryByEntry, OnlyEntries, RefusedLast}
+use Rattle.chain.specs.OwnPositionsClaims.{OwnAtHeader, OwnInCall, OwnNotBefore, OwnOverLoads, OwnUnfiltered}
 use Rattle.chain.specs.PacketsClaims.{EachOnce, ExactlyMatching, MatchingInTurn, NoneMissing, ReachesEnd}
 use Rattle.chain.specs.SkipsClaims.{EachSkipsAhead}
 use Rattle.scan_laws.specs.LoadRepliesClaims.{LoadsTellAll}
@@ -37,6 +38,15 @@ pub record Demand3 : Type 0 where
   pub none-missing : NoneMissing
   -- D3.4: calls that are not held back come to the chain's end.
   pub ends : ReachesEnd
+  -- S12: a packet has its load's start and, as its own, the position reported as its header was examined ..
+  pub own : OwnAtHeader
+  -- .. which, over a whole load and however many calls it takes, is that start and the offsets passed ..
+  pub own-over-loads : OwnOverLoads
+  -- .. and in a call, which may go on with an open load, the position where the call began and the offsets passed in it ..
+  pub own-in-call : OwnInCall
+  -- .. so that without a filter the two are one number, and the own one is never before the other.
+  pub own-unfiltered : OwnUnfiltered
+  pub own-not-before : OwnNotBefore
   -- D3.5, D3.6: added bytes change no entry but a closing refusal 1 and a last payload that was cut.
   pub added : AddedBytes
   -- D3.7: the replies to any list of checks on one validator follow from its settings and start, the headers and the buffers' lengths.

@@ -2,6 +2,7 @@
 use Rattle.chain.specs.AddedBytesLaws.{added-bytes}
 use Rattle.chain.specs.CallsFollowLaws.{calls-follow, leaves-rest}
 use Rattle.chain.specs.ChainEntriesLaws.{allowance, entry-by-entry, only-entries, refused-last}
+use Rattle.chain.specs.OwnPositionsLaws.{own-at-header, own-in-call, own-not-before, own-over-loads, own-unfiltered}
 use Rattle.chain.specs.PacketsLaws.{each-once, exactly-matching, matching-in-turn, none-missing, reaches-end}
 use Rattle.chain.specs.SkipsLaws.{each-skips-ahead}
 use Rattle.scan_laws.specs.LoadRepliesLaws.{loads-tell-all}
@@ -26,6 +27,11 @@ demand-3 =
       rest = leaves-rest;
       none-missing = none-missing;
       ends = reaches-end;
+      own = own-at-header;
+      own-over-loads = own-over-loads;
+      own-in-call = own-in-call;
+      own-unfiltered = own-unfiltered;
+      own-not-before = own-not-before;
       added = added-bytes;
       verdicts = follows;
       texts = texts-left;

@@ -1,12 +1,13 @@
 -- Examples, which no public contract cites. D3.1 on a small recording, computed: there are two packets of 64 bytes, and four calls on
--- windows that meet the premises. The replies and the chain are written out, so that a reader sees that they agree. Then both ends of S10.
+-- windows that meet the premises. The replies and the chain are written out, so that a reader sees that they agree. Then both ends of S10,
+-- and the two positions of S12.
 use Prim.Native.Nat.{ℕ}
 use mathlib.Core.Bool.{Bool, true, false, false≢true}
 use mathlib.Core.Path.{_≡_, refl}
-use mathlib.Core.List.{List, [], _∷_, _++_, flatMap}
+use mathlib.Core.List.{List, [], _∷_, _++_, flatMap, map}
 use native.Mathlib.Omega.{arith}
 use lib.IntN.{ℤ, pos}
-use lib.ListN.{drop, take}
+use lib.ListN.{drop, replicate, take}
 use Rattle.basis.specs.Bytes.{bytesOf, little, numberAt}
 use Rattle.basis.specs.Pick.{pick}
 use Rattle.basis.specs.Refusals.{Answer, gives, refuses}
@@ -18,6 +19,7 @@ use Rattle.scan_cdp.specs.Loads.{loaded, loadedFrom, together}
 use Rattle.scan_cdp.specs.Steps.{Entry, cut, ended, entryOf, initialOf, marksOf, newState, payloadOf, placeAfter, placesListed, progressAfter, raised, step, tallied, outcomeIn, unusable, usedListed}
 use Rattle.scan_cdp.specs.Outcomes.{filtered, offset, skipDistance, outcomeOf}
 use Rattle.scan_cdp.specs.Windows.{bytesAt, examined, outside, partAt}
+use Rattle.scan_cdp.specs.declared.OpenLoad.the-variants as Load
 use Rattle.scan_cdp.specs.declared.Settings.{Settings}
 use Rattle.stats.specs.Counts.{added}
 use Rattle.stats.specs.Lists.{full, member, placesAfter, twice, usedAfter}
@@ -25,6 +27,7 @@ use Rattle.chain.specs.Calls.{Call, Reply, Window, Windows, along, replyAnswer,
 use Rattle.chain.specs.CallsFollowLaws.{calls-follow}
 use Rattle.chain.specs.Chain.{Kept, chain, chainOf, isRefused}
 use Rattle.chain.specs.Following.{repliesOf}
+use Rattle.chain.specs.OwnPositions.{WholeLoad, offsets, wholeLoads}
 use Rattle.chain.specs.Walk.{Met, walk, walkAlong}
 use Rattle.demand3.specs.MarkedCasesLaws.{_then_}
 use Rattle.demand3.specs.MarkedCases.{givenAt, plain, sample}
@@ -60,12 +63,12 @@ entryAnswers (e ∷ es) = e .answer ∷ entryAnswers es
 
 -- A want, the two packets, and the end.
 pub calls-answer : answers (replies plain start calls)
-    ≡ gives (wants (record { 0 = 0 }) 64) ∷ givenAt 0 0x502A 64 ∷ givenAt 64 0x3006 64 ∷ refuses 1 [] ∷ []
+    ≡ gives (wants (record { 0 = 0 }) 64) ∷ givenAt 0 0 0x502A 64 ∷ givenAt 64 64 0x3006 64 ∷ refuses 1 [] ∷ []
 unfolding recording calls sample bytesOf numberAt little decoded header span repliesOf replyTo examined outside unusable twice member step entryOf marksOf tallied raised added initialOf outcomeIn outcomeOf filtered full payloadOf cut placesListed placesAfter usedListed usedAfter progressAfter placeAfter ended loaded loadedFrom together bytesAt partAt
 calls-answer = refl
 
 -- The chain itself: the two packets, and the end.
-pub chain-answers : entryAnswers (chain recording plain start) ≡ givenAt 0 0x502A 64 ∷ givenAt 64 0x3006 64 ∷ refuses 1 [] ∷ []
+pub chain-answers : entryAnswers (chain recording plain start) ≡ givenAt 0 0 0x502A 64 ∷ givenAt 64 64 0x3006 64 ∷ refuses 1 [] ∷ []
 unfolding recording sample bytesOf numberAt little decoded header span chain chainOf unusable twice member step entryOf marksOf tallied raised added initialOf outcomeIn outcomeOf filtered full payloadOf cut placesListed placesAfter usedListed usedAfter progressAfter placeAfter ended
 chain-answers = refl
 
@@ -108,11 +111,68 @@ skips bytes set =
     (walk bytes set start)
 
 -- The least, 0, is skipped behind an offset of 64 ..
-pub least-skipped : (skips (alone 64) passing ≡ (gives passed, pos 0) ∷ []) × (skips (alone 64) handing ≡ (givenAt 0 0x502A 64, pos 0) ∷ [])
+pub least-skipped : (skips (alone 64) passing ≡ (gives passed, pos 0) ∷ []) × (skips (alone 64) handing ≡ (givenAt 0 0 0x502A 64, pos 0) ∷ [])
 unfolding sample bytesOf numberAt little decoded header span walk walkAlong chain chainOf unusable twice member step entryOf outcomeIn outcomeOf filtered full payloadOf cut placesListed usedListed progressAfter placeAfter marksOf tallied raised initialOf ended flatMap
 least-skipped = (refl, refl)
 
 -- .. and the most, 10,000, behind one of 10,064.
-pub most-skipped : (skips (alone 10064) passing ≡ (gives passed, pos 10000) ∷ []) × (skips (alone 10064) handing ≡ (givenAt 0 0x502A 10064, pos 10000) ∷ [])
+pub most-skipped : (skips (alone 10064) passing ≡ (gives passed, pos 10000) ∷ []) × (skips (alone 10064) handing ≡ (givenAt 0 0 0x502A 10064, pos 10000) ∷ [])
 unfolding sample bytesOf numberAt little decoded header span walk walkAlong chain chainOf unusable twice member step entryOf outcomeIn outcomeOf filtered full payloadOf cut placesListed usedListed progressAfter placeAfter marksOf tallied raised initialOf ended flatMap
 most-skipped = (refl, refl)
+
+-- ---- the two positions of a packet (S12)
+
+-- A header in front of the two, with an offset of 80, so that two are passed where the FEE id of the last is asked for.
+unfoldable pub three : List ℕ
+three = sample 0x502A 80 0 0x4813 ++ replicate 16 0 ++ recording
+
+abbrev last-fee : Settings
+last-fee =
+    record {
+      filter = record { «filter_link» = Option8.None; «filter_fee» = Option16.Some 0x3006; «filter_its_stave» = Option16.None };
+      «skip_payload» = true;
+      stats = false;
+    }
+
+-- One load in three calls: a load that passes the first header and wants the second, an examination that passes that, and a load.
+pub one-load : List Call
+one-load =
+    loads (record { bytes = take 100 three; first = 0; last = false })
+    ∷ examines (record { bytes = take 64 (drop 80 three); first = 80; last = false })
+    ∷ loads (record { bytes = three; first = 0; last = true })
+    ∷ []
+
+-- With none open its packet has the position where the load began, 0, and as its own 0 and two offsets, 80 and 64.
+pub own-over-calls : answers (replies last-fee start one-load)
+    ≡ gives (wants (record { 0 = 80 }) 64) ∷ gives passed ∷ givenAt 0 144 0x3006 64 ∷ []
+unfolding one-load three recording sample bytesOf numberAt little decoded header span repliesOf replyTo examined outside unusable twice member step entryOf marksOf tallied raised added initialOf outcomeIn outcomeOf filtered full payloadOf cut placesListed placesAfter usedListed usedAfter progressAfter placeAfter ended loaded loadedFrom together bytesAt partAt
+own-over-calls = refl
+
+-- These are the offsets that the walk gives for that load.
+pub offsets-by-walk : map (λ (l : WholeLoad). offsets (l .passed)) (wholeLoads [] (walk three last-fee start)) ≡ 144 ∷ []
+unfolding three recording sample bytesOf numberAt little decoded header span walk walkAlong chain chainOf unusable twice member step entryOf outcomeIn outcomeOf filtered full payloadOf cut placesListed usedListed progressAfter placeAfter marksOf tallied raised initialOf ended wholeLoads offsets
+offsets-by-walk = refl
+
+-- A state with an open load whose start is above the position, which no scan leaves.
+abbrev opened : Kept
+opened =
+    record {
+      state = record {
+        progress = record {
+          place = record { 0 = 0 };
+          position = record { 0 = 0 };
+          load = Load.From (record { 0 = 1000 });
+          counts = newState .progress .counts;
+          «links_used» = 0;
+          «fee_ids_used» = 0;
+        };
+        links = newState .links;
+      };
+      feeIds = start .feeIds;
+    }
+
+-- The packet has that start, and as its own the position where the calls began and the two offsets: here it is before the start.
+pub own-before-start : answers (replies last-fee opened one-load)
+    ≡ gives (wants (record { 0 = 80 }) 64) ∷ gives passed ∷ givenAt 1000 144 0x3006 64 ∷ []
+unfolding one-load three recording sample bytesOf numberAt little decoded header span repliesOf replyTo examined outside unusable twice member step entryOf marksOf tallied raised added initialOf outcomeIn outcomeOf filtered full payloadOf cut placesListed placesAfter usedListed usedAfter progressAfter placeAfter ended loaded loadedFrom together bytesAt partAt
+own-before-start = refl

@@ -44,13 +44,18 @@ pub data Case : Type 0 where
   -- a stave name: what its call answers
   name : (text : List ℕ) → Answer ℕ → Case
 
--- A packet with no payload, whose load started at a position.
-abbrev pub givenAt : (position feeId n : ℕ) → Answer (Found (List ℕ))
-givenAt position feeId n =
-    gives (handed (record { header = decoded (sample feeId n 0 0x4813); payload = []; position = record { 0 = position } }))
+-- A packet with no payload, whose load started at a position, with its own position.
+abbrev pub givenAt : (position own feeId n : ℕ) → Answer (Found (List ℕ))
+givenAt position own feeId n =
+    gives (handed (record {
+      header = decoded (sample feeId n 0 0x4813);
+      payload = [];
+      position = record { 0 = position };
+      own = record { 0 = own };
+    }))
 
 abbrev given : ℕ → Answer (Found (List ℕ))
-given = givenAt 0 0x502A
+given = givenAt 0 0 0x502A
 
 unfoldable pub marked : List Case
 marked =

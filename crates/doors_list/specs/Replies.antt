@@ -17,7 +17,7 @@ kindFull = 4
 -- C's struct for why a listing stopped: a kind with nothing else where room may be lacking; refusal 7, whose length stands beside the answer;
 -- or the load's answer.
 abbrev pub plainStop : Stopped → PlainAnswer
-plainStop full = answerWith kindFull 0 0 0 0 0 0 (pos 0)
+plainStop full = answerWith kindFull 0 0 0 0 0 0 0 (pos 0)
 plainStop (tooShort needed) = refusedWith 7 (pos 0) 0
 plainStop (answered a) = plainAnswer a
 

@@ -92,6 +92,7 @@ fn plain_stop(stop: Stop) -> PlainAnswer
     match stop {
         Stop::Full => PlainAnswer {
             position: 0,
+            own: 0,
             want_place: 0,
             want_size: 0,
             payload_start: 0,

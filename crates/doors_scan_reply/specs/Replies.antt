@@ -33,12 +33,13 @@ kindWant = 2
 abbrev pub kindRefused : ℕ
 kindRefused = 3
 
--- An answer of a kind, with what kinds have: a position; place and size of a want; start and length of a payload; number and distance of a
--- refusal.
-abbrev pub answerWith : (kind position place size start length number : ℕ) → (distance : ℤ) → PlainAnswer
-answerWith kind position place size start length number distance =
+-- An answer of a kind, with what kinds have: a position; a packet's own; place and size of a want; start and length of a payload; number
+-- and distance of a refusal.
+abbrev pub answerWith : (kind position own place size start length number : ℕ) → (distance : ℤ) → PlainAnswer
+answerWith kind position own place size start length number distance =
     record {
       position = position;
+      own = own;
       «want_place» = place;
       «want_size» = size;
       «payload_start» = start;
@@ -50,7 +51,7 @@ answerWith kind position place size start length number distance =
 
 -- A refusal by its number, with a distance and a position.
 abbrev pub refusedWith : ℕ → ℤ → ℕ → PlainAnswer
-refusedWith number distance position = answerWith kindRefused position 0 0 0 0 number distance
+refusedWith number distance position = answerWith kindRefused position 0 0 0 0 0 number distance
 
 -- The first and the second value of a refusal, 0 where it has none.
 abbrev pub firstOf : List ℤ → ℤ
@@ -63,9 +64,9 @@ secondOf (v ∷ vs) = firstOf vs
 
 -- C's struct for an answer: its kind, and what that kind has; all else is 0.
 abbrev pub plainAnswer : Answer (Found Part) → PlainAnswer
-plainAnswer (gives passed) = answerWith kindPassed 0 0 0 0 0 0 (pos 0)
-plainAnswer (gives (handed p)) = answerWith kindPacket (p .position .0) 0 0 (p .payload .start) (p .payload .length) 0 (pos 0)
-plainAnswer (gives (wants place size)) = answerWith kindWant 0 (place .0) size 0 0 0 (pos 0)
+plainAnswer (gives passed) = answerWith kindPassed 0 0 0 0 0 0 0 (pos 0)
+plainAnswer (gives (handed p)) = answerWith kindPacket (p .position .0) (p .own .0) 0 0 (p .payload .start) (p .payload .length) 0 (pos 0)
+plainAnswer (gives (wants place size)) = answerWith kindWant 0 0 (place .0) size 0 0 0 (pos 0)
 plainAnswer (refuses number values) = refusedWith number (firstOf values) (natAbs (secondOf values))
 
 abbrev pub refusalAnswer : Refusal → PlainAnswer

@@ -45,6 +45,7 @@ readAnswer n header =
       header = decoded header;
       payload = record { start = n .«payload_start»; length = n .«payload_length» };
       position = record { 0 = n .position };
+      own = record { 0 = n .own };
     })))
     (pick (eqb (n .kind) kindWant) (gives (wants (record { 0 = n .«want_place» }) (n .«want_size»)))
     (refuses (n .refusal) (valuesIn n))))
@@ -73,7 +74,8 @@ pub answer-again : (a : Examined) (bytes : List ℕ) → Writable a → 64 ≤ l
     → readAnswer (plainAnswer (examinedAnswer a)) (headerLeft (examinedAnswer a) bytes) ≡ examinedAnswer a
 answer-again Passed bytes fits long = refl
 answer-again (Answered (Loads.Packet packet)) bytes fits long =
-    ap (λ (h : RdhCru). gives (handed (record { header = h; payload = packet .payload; position = packet .position }))) (header-again (packet .rdh) bytes fits long)
+    ap (λ (h : RdhCru). gives (handed (record { header = h; payload = packet .payload; position = packet .position; own = packet .own })))
+    (header-again (packet .rdh) bytes fits long)
 answer-again (Answered (Loads.Want place size)) bytes fits long = refl
 answer-again (Answered (Loads.Refused why)) bytes fits long = refusal-again why bytes
 

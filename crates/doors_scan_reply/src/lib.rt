@@ -26,6 +26,7 @@ const REFUSED: u32 = 3;
 #[repr(C)]
 pub struct PlainAnswer {
     pub position: u64,
+    pub own: u64,
     pub want_place: u64,
     pub want_size: u64,
     pub payload_start: usize,
@@ -72,6 +73,7 @@ fn examined_answer(answer: Examined) -> PlainAnswer
     match answer {
         Examined::Passed => PlainAnswer {
             position: 0,
+            own: 0,
             want_place: 0,
             want_size: 0,
             payload_start: 0,
@@ -91,6 +93,7 @@ pub fn plain_answer(answer: LoadCdp) -> PlainAnswer
     match answer {
         LoadCdp::Packet(packet) => PlainAnswer {
             position: packet.position.0,
+            own: packet.own.0,
             want_place: 0,
             want_size: 0,
             payload_start: packet.payload.start,
@@ -101,6 +104,7 @@ pub fn plain_answer(answer: LoadCdp) -> PlainAnswer
         },
         LoadCdp::Want(place, size) => PlainAnswer {
             position: 0,
+            own: 0,
             want_place: place.0,
             want_size: size,
             payload_start: 0,
@@ -129,6 +133,7 @@ pub fn refused(refusal: u32, distance: i32, position: u64) -> PlainAnswer
 {
     PlainAnswer {
         position,
+        own: 0,
         want_place: 0,
         want_size: 0,
         payload_start: 0,

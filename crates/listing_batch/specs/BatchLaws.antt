@@ -40,7 +40,7 @@ line-there v position h = simp length-append (omega arith)
 
 pub packet-there : (v : RdhCruSanityValidator) (a : Answer (Found Part)) (l : Loaded Part) → isPacket a ≡ true → 1 ≤ length (linesOf v a l)
 packet-there v (gives passed) l e = absurd (false≢true e)
-packet-there v (gives (handed p)) l e = line-there v (p .position .0) (p .header)
+packet-there v (gives (handed p)) l e = line-there v (p .own .0) (p .header)
 packet-there v (gives (wants place size)) l e = absurd (false≢true e)
 packet-there v (refuses number values) l e = absurd (false≢true e)
 

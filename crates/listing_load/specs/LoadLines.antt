@@ -22,7 +22,7 @@ use Rattle.listing_load.specs.declared.Listed.{Listed}
 -- passed has none (P2, P3, P5).
 abbrev pub answerLines : {P : Type 0} → RdhCruSanityValidator → Answer (Found P) → Counts → List ℕ
 answerLines v (gives passed) counts = []
-answerLines v (gives (handed p)) counts = packetLines v (p .position .0) (p .header)
+answerLines v (gives (handed p)) counts = packetLines v (p .own .0) (p .header)
 answerLines v (gives (wants place size)) counts = []
 answerLines v (refuses number values) counts = lastLines counts number
 

@@ -11,9 +11,12 @@ use Rattle.validators.specs.declared.RdhCruSanityValidator.{RdhCruSanityValidat
 use Rattle.scan_cdp.specs.Answers.{Found, loadAnswer}
 use Rattle.scan_cdp.specs.Loads.{Loaded}
 use Rattle.scan_cdp.specs.declared.LoadCdp.{LoadCdp}
+use Rattle.scan_cdp.specs.declared.LoadCdp.the-variants as Loads
+use Rattle.scan_cdp.specs.declared.Packet.{Packet}
 use Rattle.scan_cdp.specs.declared.Part.{Part}
 use Rattle.input_scanner.specs.Replies.{loadOf}
 use Rattle.listing_lines.specs.Lines.{room}
+use Rattle.listing_packet.specs.Packets.{Packs, packetLines}
 use Rattle.listing_load.specs.LoadLines.{Lists, linesOf, unsoundIn, validatorOf}
 use Rattle.listing_load.specs.declared.Listed.{Listed}
 
@@ -35,3 +38,14 @@ lists l v out at r links feeIds left a load is validator unsound lines short =
       lines = respelled same lines;
       short = omega (arith, ap length same, short);
     }
+
+-- one that answers with a packet: it has put the packet's lines with a position, which is the packet's own (S12, P2)
+pub lists-packet : (l : Loaded Part) (v : RdhCruSanityValidator) (out : List ℕ) (at : ℕ) (r : Listed) (links feeIds left : List ℕ)
+    (packet : Packet) (position : ℕ) → loadOf (r .load) links feeIds ≡ l → r .load .answer ≡ Loads.Packet packet
+    → Packs v position (packet .rdh) out at (record { validator = r .validator; at = r .at; unsound = r .unsound }) left
+    → position ≡ packet .own .0 → Lists l v out at r links feeIds left
+lists-packet l v out at r links feeIds left packet position load is packs own =
+    let lines : packetLines v position (packet .rdh) ≡ packetLines v (packet .own .0) (packet .rdh) =
+    ap (λ (n : ℕ). packetLines v n (packet .rdh)) own in
+    lists l v out at r links feeIds left (Loads.Packet packet) load is (packs .validator) (packs .unsound) (respelled lines (packs .lines))
+    (omega (arith, ap length lines, packs .short))

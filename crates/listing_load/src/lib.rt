@@ -38,7 +38,7 @@ pub fn list_cdp(
     let answer = load.answer;
     match answer {
         LoadCdp::Packet(packet) => {
-            let lines = listing_packet::put_packet(out, at, validator, packet.position, packet.rdh);
+            let lines = listing_packet::put_packet(out, at, validator, packet.own, packet.rdh);
             let validator = lines.validator;
             Listed {
                 load,

@@ -26,9 +26,13 @@ entriesText v (e ∷ es) = answerLines v (e .answer) (e .state .progress .counts
 unfoldable pub listingText : List ℕ → Settings → RdhCruSanityValidator → Kept → List ℕ
 listingText recording set v k = entriesText v (chain recording set k)
 
+-- What the program keeps as it starts (P1).
+abbrev pub programStart : Kept
+programStart = record { state = newState; feeIds = replicate 4096 0 }
+
 -- The listing that the program writes (P1).
 abbrev pub programText : List ℕ → List ℕ
-programText recording = listingText recording listSettings newValidator (record { state = newState; feeIds = replicate 4096 0 })
+programText recording = listingText recording listSettings newValidator programStart
 
 -- ---- what loads put
 

@@ -23,9 +23,11 @@ use Rattle.chain.specs.Calls.{Hold, Reply, Served, Window, WindowOf, endsBy, en
 use Rattle.chain.specs.CallsLaws.{ends-read, given-goes-on, held-cases, refused-ends}
 use Rattle.chain.specs.Chain.{Kept, chain, isRefused, left, placeOf}
 use Rattle.chain.specs.LoadLaws.{load-follows}
+use Rattle.chain.specs.OwnPositionsLaws.{own-unfiltered}
 use Rattle.listing_load.specs.LoadLines.{answerLines, linesOf, validatorOf}
-use Rattle.listing_text.specs.ListingText.{areRefused, entriesText, keptAfter, listingText, loadOn, loadsText, textToCome}
-use Rattle.listing_text.specs.ListingTextClaims.{LoadsFollow, LoadsList}
+use Rattle.listing_start.specs.Start.{listSettings}
+use Rattle.listing_text.specs.ListingText.{areRefused, entriesText, keptAfter, listingText, loadOn, loadsText, programStart, textToCome}
+use Rattle.listing_text.specs.ListingTextClaims.{LinesAtStarts, LoadsFollow, LoadsList}
 
 -- ---- what a load is served
 
@@ -36,21 +38,21 @@ linesAfter v o =
     answerLines v answer (keptBy (o .reply) .state .progress .counts) ++ entriesText (validatorOf v answer) (o .rest)
 
 -- A refusal ends the chain.
-abbrev Own : Reply → Type 0
-Own r = isRefused (replyAnswer r) ≡ true → endsChain r ≡ true
+abbrev Ending : Reply → Type 0
+Ending r = isRefused (replyAnswer r) ≡ true → endsChain r ≡ true
 
 -- What holds a load back has no lines, unless it is a 6 by the window.
 abbrev Silent : RdhCruSanityValidator → LoadMarks → Kept → Hold → Type 0
 Silent v ms k free = Unit {0}
 Silent v ms k (held a) =
-    Own (load (heldLoad ms k a)) → (answerLines v a (k .state .progress .counts) ≡ []) × (validatorOf v a ≡ v)
+    Ending (load (heldLoad ms k a)) → (answerLines v a (k .state .progress .counts) ≡ []) × (validatorOf v a ≡ v)
 
 silent : (set : Settings) (v : RdhCruSanityValidator) (ms : LoadMarks) (k : Kept) (w : Window) (e : Entry (List ℕ))
     → Silent v ms k (heldBack set k w e)
 silent set v ms k w e =
     held-cases set k w e (Silent v ms k) tt
-    (λ usable own. absurd (true≢false (sym (own refl) ∙ usable)))
-    (λ size own. (refl, refl))
+    (λ usable ending. absurd (true≢false (sym (ending refl) ∙ usable)))
+    (λ size ending. (refl, refl))
 
 -- a header that is passed has no lines, and is not checked
 passed-lines : (v : RdhCruSanityValidator) (a : Answer (Found (List ℕ))) (counts : Counts) → isPassed a ≡ true
@@ -61,29 +63,29 @@ passed-lines v (gives (wants place size)) counts e = absurd (false≢true e)
 passed-lines v (refuses number values) counts e = absurd (false≢true e)
 
 load-lines : (set : Settings) (v : RdhCruSanityValidator) (w : Window) (es : List (Entry (List ℕ))) (ms : LoadMarks) (k : Kept)
-    → Own (loadAlong set w ms k es .reply) → linesAfter v (loadAlong set w ms k es) ≡ entriesText v es
+    → Ending (loadAlong set w ms k es .reply) → linesAfter v (loadAlong set w ms k es) ≡ entriesText v es
 unfolding loadAlong entriesText
-load-lines set v w [] ms k = λ own. refl
+load-lines set v w [] ms k = λ ending. refl
 load-lines set v w (e ∷ es) ms k =
     by-held (heldBack set k w e) (silent set v ms k w e) (load-lines set v w es (together ms (e .marks)) (left e))
   where
     onwards : Served
     onwards = loadAlong set w (together ms (e .marks)) (left e) es
 
-    by-held : (h : Hold) → Silent v ms k h → (Own (onwards .reply) → linesAfter v onwards ≡ entriesText v es)
-        → Own (loadedBy ms k e es onwards h .reply)
+    by-held : (h : Hold) → Silent v ms k h → (Ending (onwards .reply) → linesAfter v onwards ≡ entriesText v es)
+        → Ending (loadedBy ms k e es onwards h .reply)
         → linesAfter v (loadedBy ms k e es onwards h)
         ≡ answerLines v (e .answer) (e .state .progress .counts) ++ entriesText (validatorOf v (e .answer)) es
     by-held free quiet onward =
         by-test
-        (λ (o : Served). Own (o .reply)
+        (λ (o : Served). Ending (o .reply)
         → linesAfter v o ≡ answerLines v (e .answer) (e .state .progress .counts) ++ entriesText (validatorOf v (e .answer)) es)
         (isPassed (e .answer)) _ _
-        (λ passes own.
+        (λ passes ending.
         let none = passed-lines v (e .answer) (e .state .progress .counts) passes in
-        onward own ∙ sym (λ i. none .0 i ++ entriesText (none .1 i) es))
-        (λ stops own. refl)
-    by-held (held a) quiet onward = λ own i. quiet own .0 i ++ entriesText (quiet own .1 i) (e ∷ es)
+        onward ending ∙ sym (λ i. none .0 i ++ entriesText (none .1 i) es))
+        (λ stops ending. refl)
+    by-held (held a) quiet onward = λ ending i. quiet ending .0 i ++ entriesText (quiet ending .1 i) (e ∷ es)
 
 -- ---- one load
 
@@ -115,8 +117,8 @@ module _ (recording : List ℕ) (set : Settings) (v : RdhCruSanityValidator) (k 
   as-read = ends-read (w .bytes) (l .answer) (unusable (l .state) (l .feeIds))
 
   -- a refusal ends the chain: a 6 is due by state and list, since the window fits
-  own : outside (placeOf k) (w .first) (length (w .bytes)) ≡ false → isRefused (l .answer) ≡ true → endsChain r ≡ true
-  own fits refused =
+  ending : outside (placeOf k) (w .first) (length (w .bytes)) ≡ false → isRefused (l .answer) ≡ true → endsChain r ≡ true
+  ending fits refused =
       let known = only-rows set (k .state) (k .feeIds) (w .bytes) (w .first) (w .last) .1 in
       let due = loaded-six set (w .bytes) (w .first) (w .last) (k .state) (k .feeIds) fits in
       sym as-read ∙ refused-ends (l .answer) _ known due refused
@@ -129,23 +131,23 @@ module _ (recording : List ℕ) (set : Settings) (v : RdhCruSanityValidator) (k 
       → pick (isRefused (l .answer)) [] (entriesText after (chain recording set (keptAfter l)))
       ≡ entriesText after (pick (endsChain r) [] (chain recording set (keptAfter l)))
   unfolding entriesText
-  rest-lines own =
+  rest-lines ending =
       by-test (λ (t : List ℕ). t ≡ entriesText after (pick (endsChain r) [] (chain recording set (keptAfter l)))) (isRefused (l .answer)) _ _
-      (λ refused. sym (ap (entriesText after) (on _ _ (own refused))))
+      (λ refused. sym (ap (entriesText after) (on _ _ (ending refused))))
       (λ answers. sym (ap (entriesText after) (off _ _ (goes-on answers))))
 
   -- the lines of a load, and then the listing of what it leaves, or nothing behind a refusal
   one-load : (isRefused (l .answer) ≡ true → endsChain r ≡ true)
       → linesOf v (l .answer) l ++ pick (isRefused (l .answer)) [] (listingText recording set after (keptAfter l)) ≡ listingText recording set v k
   unfolding listingText
-  one-load own =
+  one-load ending =
       let same = read-lines v (w .bytes) (l .answer) (l .state .progress .counts) in
-      let owned : Own r = λ refused. own (sym (same .2) ∙ refused) in
+      let ended : Ending r = λ refused. ending (sym (same .2) ∙ refused) in
       let rest = pick (endsChain r) [] (chain recording set (keptAfter l)) in
-      ap (λ (t : List ℕ). linesOf v (l .answer) l ++ t) (rest-lines own)
+      ap (λ (t : List ℕ). linesOf v (l .answer) l ++ t) (rest-lines ending)
       ∙ (λ i. sym (same .0) i ++ entriesText (sym (same .1) i) rest)
       ∙ ap (linesAfter v) (sym served)
-      ∙ load-lines set v w (chain recording set k) noLoadMarks k (subst (λ (o : Served). Own (o .reply)) (sym served) owned)
+      ∙ load-lines set v w (chain recording set k) noLoadMarks k (subst (λ (o : Served). Ending (o .reply)) (sym served) ended)
 
 -- ---- all loads
 
@@ -165,7 +167,7 @@ loads-follow recording set v k (w ∷ ws) (of, fits, onward) =
     ∙ ap (λ (t : List ℕ). linesOf v (l .answer) l ++ t)
     (behind-refusal (isRefused (l .answer)) put to-come
     ∙ ap (λ (t : List ℕ). pick (isRefused (l .answer)) [] t) (loads-follow recording set after (keptAfter l) ws onward))
-    ∙ one-load recording set v k w of (own recording set v k w of fits)
+    ∙ one-load recording set v k w of (ending recording set v k w of fits)
 
 -- a refusal leaves nothing to come
 none-to-come : (recording : List ℕ) (set : Settings) (v : RdhCruSanityValidator) (k : Kept) (ws : List Window) → areRefused set k ws ≡ true
@@ -185,3 +187,8 @@ loads-list recording set v k ws through refused =
     sym (append-nil (loadsText set v k ws))
     ∙ ap (λ (t : List ℕ). loadsText set v k ws ++ t) (sym (none-to-come recording set v k ws refused))
     ∙ loads-follow recording set v k ws through
+
+-- ---- the positions of the lines
+
+pub lines-at-starts : LinesAtStarts
+lines-at-starts recording = own-unfiltered recording listSettings programStart refl refl

@@ -46,6 +46,7 @@ pub fn answer(
             rdh,
             payload,
             position: start,
+            own: position,
         })),
     }
 }

@@ -15,12 +15,13 @@ use Rattle.scan_cdp.specs.declared.LoadCdp.the-variants as Loads
 use Rattle.scan_cdp.specs.declared.Examined.{Examined}
 use Rattle.scan_cdp.specs.declared.Examined.the-variants.{Passed, Answered}
 
--- What is handed out (S5): a header, its payload, and the position at which its load started. On the chain a payload is bytes, in a reply it
--- is a part of the window.
+-- What is handed out (S5): a header, its payload, the position at which its load started, and its own, which the scan reported when it
+-- examined that header. On the chain a payload is bytes, in a reply it is a part of the window.
 pub record Handed (P : Type 0) : Type 0 where
   pub header : RdhCru
   pub payload : P
   pub position : Position
+  pub own : Position
 
 -- What is found at a byte place: a header that is passed; one that is handed out; or, on a window, a want for so many bytes from a byte
 -- place on.
@@ -31,7 +32,7 @@ pub data Found (P : Type 0) : Type 0 where
 
 -- What is handed out, or answered, with the payload said in another way.
 abbrev pub handedAs : {P Q : Type 0} → (P → Q) → Handed P → Handed Q
-handedAs f p = record { header = p .header; payload = f (p .payload); position = p .position }
+handedAs f p = record { header = p .header; payload = f (p .payload); position = p .position; own = p .own }
 
 abbrev pub answerAs : {P Q : Type 0} → (P → Q) → Answer (Found P) → Answer (Found Q)
 answerAs f (gives passed) = gives passed
@@ -60,7 +61,7 @@ refusal why = refuses (numberOf why) (valuesOf why)
 
 -- The code's packet.
 abbrev pub handedBy : Packet → Handed Part
-handedBy packet = record { header = packet .rdh; payload = packet .payload; position = packet .position }
+handedBy packet = record { header = packet .rdh; payload = packet .payload; position = packet .position; own = packet .own }
 
 -- What a load answers.
 abbrev pub loadAnswer : LoadCdp → Answer (Found Part)

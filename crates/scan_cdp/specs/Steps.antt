@@ -193,13 +193,14 @@ loadAfter MemorySize load position = Load.None
 loadAfter Passed load position = Load.From (startOf load position)
 loadAfter HandedOut load position = Load.None
 
--- What is answered: refusal 2 with the signed distance and the position at this header (R2), a packet with its load's start (S5).
+-- What is answered: refusal 2 with the signed distance and the position at this header (R2), a packet with its load's start and, as its own,
+-- the position at this header (S5).
 abbrev pub answerIn : {P : Type 0} → Outcome → RdhCru → P → (start position : Position) → Answer (Found P)
 answerIn FeeIdsFull h payload start position = refuses 4 []
 answerIn BadOffset h payload start position = refuses 2 (skipDistance (offset h) ∷ pos (position .0) ∷ [])
 answerIn MemorySize h payload start position = refuses 3 []
 answerIn Passed h payload start position = gives passed
-answerIn HandedOut h payload start position = gives (handed (record { header = h; payload = payload; position = start }))
+answerIn HandedOut h payload start position = gives (handed (record { header = h; payload = payload; position = start; own = position }))
 
 -- The payload's bytes behind the header; none where it is skipped or cut (S6).
 unfoldable pub payloadOf : Bool → Outcome → RdhCru → List ℕ → List ℕ

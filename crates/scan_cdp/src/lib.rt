@@ -104,11 +104,12 @@ pub struct Part {
     pub length: usize,
 }
 
-// A packet: its header, where its payload is in the window, and the position at which its load started.
+// A packet: its header, where its payload is in the window, the position at which its load started, and its own, at which its header stands.
 pub struct Packet {
     pub rdh: RdhCru,
     pub payload: Part,
     pub position: Position,
+    pub own: Position,
 }
 
 // Refusals 1 to 4, and 6: why there is no 5, R5 says.

@@ -129,6 +129,7 @@ fn stepped(
         outcome_payload::read_size(set.skip_payload, rdh, left),
     );
     let tally = outcome_counts::tallied(set, first, outcome, progress.counts, rdh);
+    let next_position = Position(position.0 + outcome_moves::position_moved(outcome, rdh));
     Examination {
         answer: outcome_effects::answer(
             outcome,
@@ -149,7 +150,7 @@ fn stepped(
                 progress.place.0
                     + outcome_moves::place_moved(set.skip_payload, outcome, rdh, left) as u64,
             ),
-            position: Position(position.0 + outcome_moves::position_moved(outcome, rdh)),
+            position: next_position,
             load: outcome_moves::load_after(outcome, load, position),
             counts: Counts {
                 seen: tally.seen.value,

@@ -3,7 +3,7 @@ use mathlib.Core.Path.{refl}
 use native.Mathlib.Omega.{arith}
 use Rattle.text.specs.PutLaws.{put-nothing}
 use Rattle.listing_lines.specs.LineLaws.{short-last}
-use Rattle.listing_load.specs.LoadLinesLaws.{lists}
+use Rattle.listing_load.specs.LoadLinesLaws.{lists, lists-packet}
 use borrow.Author.Needs.{needs}
 use Rattle.listing_load.proofs.list_cdp.Statement.{statement}
 use Rattle.listing_load.proofs.list_cdp.Tie as tie
@@ -35,14 +35,13 @@ same-length-2 c = search needs
 returns : tie.Need-returns
 returns c =
     let packed = c .before .before .before in
-    let packs = packed .put-packet .ensures in
     let told = packed .before .before .before in
     let replied = told .before .before .before .before in
     let start = replied .before .before .before .before .before .before in
     let args = start .args in
     let load = replied .load-cdp in
-    lists _ (args .validator) (args .out .now) (args .at) _ _ _ _ _ (load .ensures) (told .answer .given .1) (packs .validator)
-    (packs .unsound) (packs .lines) (packs .short)
+    lists-packet _ (args .validator) (args .out .now) (args .at) _ _ _ _ _ _ (load .ensures) (told .answer .given .1)
+    (packed .put-packet .ensures) refl
 
 same-length-3 : tie.Need-same-length-3
 same-length-3 c = search needs

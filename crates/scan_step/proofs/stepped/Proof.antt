@@ -5,6 +5,7 @@ use mathlib.Core.List.{List}
 use mathlib.Core.Path.{_≡_, ap, sym, _∙_}
 use native.Mathlib.Omega.{arith}
 use lib.ListN.{length}
+use Rattle.scan_cdp.specs.Answers.{examinedAnswer}
 use Rattle.scan_cdp.specs.Steps.{answerIn, initialOf, marksOf, payloadOf, progressAfter, startOf, tallied}
 use Rattle.scan_cdp.specs.Windows.{partAt}
 use Rattle.scan_cdp.specs.declared.Outcome.the-variants.{HandedOut}
@@ -31,6 +32,15 @@ part-requires c κs = search needs
 tallied-requires : tie.Need-tallied-requires
 tallied-requires c κs = search needs
 
+position-moved-requires : tie.Need-position-moved-requires
+position-moved-requires c κs = search needs
+
+add-t19 : tie.Need-add-t19
+add-t19 c =
+    let counted = c .before .before in
+    let cut = counted .before .before .before in
+    record { fits = omega (arith, c .before .position-moved .ensures .1, cut .before .before .before .pre .position) }
+
 start-of-requires : tie.Need-start-of-requires
 start-of-requires c κs = search needs
 
@@ -43,20 +53,13 @@ initial-collect-stats-requires c κs = search needs
 place-moved-requires : tie.Need-place-moved-requires
 place-moved-requires c κs = search needs
 
-add-t22 : tie.Need-add-t22
-add-t22 c =
-    let cut = c .before .before .before .before .before .before .before .before in
+add-t18 : tie.Need-add-t18
+add-t18 c =
+    let started = c .before .before .before .before in
+    let counted = started .before .before .before in
+    let cut = counted .before .before .before in
     let pre = cut .before .before .before .pre in
     record { fits = omega (arith, c .before .place-moved .ensures .1, pre .place, pre .inside) }
-
-position-moved-requires : tie.Need-position-moved-requires
-position-moved-requires c κs = search needs
-
-add-t25 : tie.Need-add-t25
-add-t25 c =
-    let marked = c .before .before .before .before in
-    let cut = marked .before .before .before .before .before .before in
-    record { fits = omega (arith, c .before .position-moved .ensures .1, cut .before .before .before .pre .position) }
 
 load-after-requires : tie.Need-load-after-requires
 load-after-requires c κs = search needs
@@ -64,12 +67,12 @@ load-after-requires c κs = search needs
 returns : tie.Need-returns
 unfolding marksOf progressAfter
 returns c =
-    let position = c .before .before in
-    let place = position .before .before in
+    let place = c .before .before in
     let initial = place .before in
     let answered = initial .before in
     let started = answered .before in
-    let counted = started .before in
+    let position = started .before .before in
+    let counted = position .before in
     let parted = counted .before in
     let sized = parted .before in
     let cut = sized .before in
@@ -83,10 +86,12 @@ returns c =
     let payload : (rest : List ℕ) → length rest ≡ args .left
     → parted .part .result ≡ partAt (args .start + 64) (length (payloadOf skip HandedOut h rest)) =
     λ rest size. parted .part .ensures ∙ ap (partAt (args .start + 64)) (sized .read-size .ensures rest size) in
+    let found : examinedAnswer (answered .answer .result) ≡ answerIn t h (parted .part .result) (started .start-of .result) (p .position) =
+    answered .answer .ensures in
     let tally = counted .tallied .ensures ∙ ap (λ (b : Bool). tallied set b t (p .counts) h) first in
     record {
       answer = λ rest size.
-          answered .answer .ensures
+          found
           ∙ (λ i. answerIn t h (payload rest size i) (started .start-of .ensures i) (p .position))
           ∙ sym (placed-answer (args .start + 64) skip t h rest (startOf (p .load) (p .position)) (p .position));
       marks = λ i. record {
@@ -116,12 +121,12 @@ stepped-spec =
     read-size-requires
     part-requires
     tallied-requires
+    position-moved-requires
+    add-t19
     start-of-requires
     answer-requires
     initial-collect-stats-requires
     place-moved-requires
-    add-t22
-    position-moved-requires
-    add-t25
+    add-t18
     load-after-requires
     returns)
