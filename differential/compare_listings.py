@@ -5,8 +5,8 @@
 
 The two listings of a recording must be the same bytes. Where ours ends with a refusal that is added (3, 4 or 6), the lines before the
 counts must be the first ones of the Rust's, which goes on. The program reads each recording three times: as a file, through a pipe in
-pieces of random lengths, and, if it is short, through a pipe that gives a byte at a time. The module reads it as a file. The last line is
-'N passed, M failed'.
+pieces of random lengths, and, if it is short, through a pipe that gives a byte at a time. The module reads it as a file, and its trigger
+counts behind a whole listing must be those of the Rust's scan. The last line is 'N passed, M failed'.
 """
 import random
 import subprocess
@@ -16,6 +16,7 @@ from pathlib import Path
 
 HERE = Path(__file__).resolve().parent.parent
 sys.path.insert(0, str(HERE / "python"))
+from answers import rust_answers
 from kesarimbu import Listing
 from make_recordings import every
 
@@ -48,16 +49,24 @@ def from_pipe(recording, sizes):
 
 
 def from_module(path):
+    """The listing, and the trigger counts behind it."""
     with Listing(path) as listing:
-        return b"".join(listing)
+        return b"".join(listing), tuple(listing.triggers)
+
+
+def rust_triggers(recording):
+    """The trigger counts of the Rust's scan of all headers."""
+    [answer] = rust_answers(["recording", f"bytes {recording.hex() or '-'}", "scan stats=1"])
+    return tuple(map(int, answer[-1].removeprefix("triggers ").split(" ")))
 
 
 def readings(path, recording, rng):
-    yield "module", from_module(path)
-    yield "file", from_file(path)
-    yield "pipe", from_pipe(recording, iter(lambda: rng.choice([1, 7, 63, 64, 65, 1000, 4096, 70000]), None))
+    """How it was read, the listing, and the trigger counts, which the program does not tell."""
+    yield "module", *from_module(path)
+    yield "file", from_file(path), None
+    yield "pipe", from_pipe(recording, iter(lambda: rng.choice([1, 7, 63, 64, 65, 1000, 4096, 70000]), None)), None
     if len(recording) <= SHORT:
-        yield "bytes", from_pipe(recording, iter(lambda: 1, None))
+        yield "bytes", from_pipe(recording, iter(lambda: 1, None)), None
 
 
 def agree(ours, rust):
@@ -80,11 +89,13 @@ def main(words):
             for name, recording in every(seed):
                 path.write_bytes(recording)
                 rust = subprocess.run([DRIVER, "list", path], capture_output=True, check=True).stdout
-                for how, ours in readings(path, recording, rng):
+                for how, ours, triggers in readings(path, recording, rng):
                     same, stopped = agree(ours, rust)
+                    if triggers is not None and not stopped:
+                        same = same and triggers == rust_triggers(recording)
                     passed, failed, added = passed + same, failed + (not same), added + stopped
                     if not same:
-                        print(f"seed {seed} {name} by {how}: the listings differ")
+                        print(f"seed {seed} {name} by {how}: the listings differ, or the trigger counts")
     print(f"{added} ended with a refusal that is added, and were compared up to it")
     print(f"{passed} passed, {failed} failed")
     sys.exit(failed != 0)

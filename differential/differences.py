@@ -49,6 +49,18 @@ def of_scan(words, rust):
     return None
 
 
+def asked_again(case, start, ours):
+    """Two scans for the Rust, and the same two for here, for one that was compared up to a refusal that is added: so the counts are compared,
+    too. The first ends before the load that is refused. The second ends with it; there the Rust's recording ends behind the header that was
+    refused here, so that it sees that one and none behind it."""
+    before = sum(line.startswith("position ") for line in start)
+    place = next(line.removeprefix("place ") for line in ours[len(start):] if line.startswith("place "))
+    words = [word for word in case.split(" ") if not word.startswith("loads=")]
+    ended, refused = ([*words, f"loads={loads}"] for loads in (before, before + 1))
+    cut = [word for word in refused if not word.startswith("length=")] + [f"length={place}"]
+    return [" ".join(ended), " ".join(cut)], [" ".join(ended), " ".join(refused)]
+
+
 def loads(rust):
     """A scan's answer, load by load; the counts at its end are no load."""
     parts, part = [], []

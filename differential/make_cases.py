@@ -12,14 +12,15 @@
     make_cases.py scans SEED            scans of every recording that make_recordings.py makes from the seed
     make_cases.py sweeps SEED           scans of a short recording, sound or damaged, cut at every length
     make_cases.py edges                 scans of two headers, an offset or a memory size of the first at its edges, with every filter
+    make_cases.py bits                  scans of headers whose trigger words tell each bit from every other, up to each of them
     make_cases.py carry                 scans of 70,000 headers that bring the payload sum to 2^32 - 1, and past it
-    make_cases.py wrap                  a trigger word that is counted 2^32 - 1 times, and twice more
+    make_cases.py wrap                  a trigger word that is counted 2^32 - 1 times, and a few more
 """
 import random
 import sys
 from itertools import cycle, product
 
-from make_recordings import FIELDS, HEADER, LAYOUT, SOURCES, STAVES, every, header, packet
+from make_recordings import FIELDS, HEADER, LAYOUT, SOURCES, STAVES, WORDS, every, header, packet
 
 # How many bits each field of the header has, and values at which its test or its text changes.
 WIDTHS = dict(zip(FIELDS, (8 * {"B": 1, "H": 2, "I": 4, "Q": 8}[c] for c in LAYOUT.format if c in "BHIQ")))
@@ -163,9 +164,10 @@ def trigger_words(rng):
 
 
 def wrap():
+    """All counts at 2^32 - 1; then five of them past it, and then the others."""
     print("triggers")
-    for times in [(1 << 32) - 1, 2]:
-        print("again", times, 0x4813)
+    for times, word in [((1 << 32) - 1, 0xFFFF_FFFF), (2, 0x4813), (1, 0xFFFF_FFFF)]:
+        print("again", times, word)
         print("list")
         print("compare")
 
@@ -233,16 +235,27 @@ def edges():
     windows = cycle([0, 64, 100, 65_536])
     for name, values in fields:
         for value in values:
-            print_recording(header(**{name: value}) + header(fee_id=0x312B, link=3, counter=1))
+            # The second header has each trigger bit that the first lacks, so that the counts tell which of them was seen.
+            print_recording(header(**{name: value}) + header(fee_id=0x312B, link=3, counter=1, trigger=~0x4813 & 0xFFFF_FFFF))
             for wanted in filters:
                 for skip, stats in product([0, 1], [0, 1]):
                     print_scan(wanted, skip=skip, stats=stats, more=2, window=next(windows), places=4096)
 
 
+def bits():
+    print_recording(b"".join(header(trigger=word, counter=number) for number, word in enumerate(WORDS)))
+    for headers in range(1, len(WORDS) + 1):
+        print_scan(dict(link=9), skip=0, stats=1, window=65_536, places=1, length=headers * HEADER)
+        print_scan({}, skip=1, stats=1, loads=headers, window=0, places=1)
+    print_scan({}, skip=0, stats=0, window=65_536, places=1)
+
+
 def carry():
-    # 16 headers whose payload sizes add up to 983,055; 4,369 times that is 2^32 - 1. One byte less or more steps over it.
+    # 16 headers whose payload sizes add up to 983,055; 4,369 times that is 2^32 - 1. One byte less or more steps over it. The
+    # trigger words differ, and the lowest bits are counted 69,920 times, past 2^16.
     for last in [1054, 1053, 1055]:
-        print_recording(header(memory=65_535) * 15 + header(memory=last))
+        headers = [header(memory=65_535, trigger=0xFFFF_FFFF >> 2 * n) for n in range(15)]
+        print_recording(b"".join(headers) + header(memory=last))
         print("repeat", 4370)
         print_scan({}, skip=1, stats=1, window=65_536, places=4096)
 
@@ -253,7 +266,7 @@ def main(words):
             globals()[kind](random.Random(f"{kind} {seed}"), int(count))
         case ["scans" | "sweeps" as kind, seed]:
             globals()[kind](int(seed))
-        case ["fees" | "staves" | "edges" | "carry" | "wrap" as kind]:
+        case ["fees" | "staves" | "edges" | "bits" | "carry" | "wrap" as kind]:
             globals()[kind]()
         case _:
             sys.exit(__doc__)

@@ -19,6 +19,9 @@ FIELDS = ("header_id header_size fee_id priority system_id reserved0 offset memo
 LAYOUT = struct.Struct("<BBHBBH HHBBH II Q IHBB Q IHH Q")
 SOUND = dict.fromkeys(FIELDS, 0) | dict(header_id=7, header_size=64, fee_id=0x502A, system_id=32, offset=64, memory=64,
                                         cru_dw=1, format_reserved=2, trigger=0x4813)
+TRIGGERS = 0xF800_7FFF  # the bits of a sound trigger word; the others are spare
+# Trigger words by which each bit is told from every other: in one of the first five the two part, whichever they are. Then all bits, and none.
+WORDS = [0xAAAA_AAAA, 0xCCCC_CCCC, 0xF0F0_F0F0, 0xFF00_FF00, 0xFFFF_0000, 0xFFFF_FFFF, 0]
 
 # Three staves, each with three uplinks, every uplink on a link of its own: FEE id and link.
 STAVES = [0x0006, 0x302B, 0x502A]
@@ -32,15 +35,18 @@ def header(**fields):
 
 
 def packet(rng, size, gap=b"", **fields):
-    """A sound packet of `size` bytes from a source taken at random, and what stands in the gap behind it."""
+    """A sound packet of `size` bytes from a source taken at random, and what stands in the gap behind it. Its trigger word has some of the bits
+    of its orbit, so that the words of a recording differ."""
     fee_id, link = rng.choice(SOURCES)
     sound = dict(fee_id=fee_id, link=link, offset=size + len(gap), memory=size, counter=rng.randrange(256),
                  bc_reserved=rng.randrange(0xDEC), orbit=rng.getrandbits(32))
+    sound["trigger"] = sound["orbit"] & TRIGGERS or SOUND["trigger"]
     return header(**sound | fields) + rng.randbytes(size - HEADER) + gap
 
 
 def readout(rng, sizes):
-    """Packets as a card writes them, without end: in each orbit two pages of every source, the second with the stop bit."""
+    """Packets as a card writes them, without end: in each orbit two pages of every source, the second with the stop bit; all with one trigger
+    word."""
     counters = [0] * len(SOURCES)
     orbit = rng.getrandbits(20)
     while True:
@@ -48,7 +54,7 @@ def readout(rng, sizes):
         for i, (fee_id, link) in enumerate(SOURCES):
             for page in range(2):
                 yield packet(rng, rng.choice(sizes), fee_id=fee_id, link=link, counter=counters[i] % 256, orbit=orbit,
-                             bc_reserved=0, pages=page, stop=page)
+                             bc_reserved=0, pages=page, stop=page, trigger=SOUND["trigger"])
                 counters[i] += 1
 
 
@@ -148,7 +154,16 @@ def noise(rng):
     return [rng.randbytes(rng.randrange(2000)), b"".join(wild)]
 
 
-KINDS = [sound, longest, many_sources, gaps, memory_sizes, offsets, stumbles, cuts, short, flipped, noise]
+def trigger_words(rng):
+    """Trigger words with spare bits and all. In the first two recordings no two bits are in the same number of headers; in the others are the
+    words that tell each bit from every other, words at random, and words of one bit or of all but one."""
+    below, above = [(1 << n) - 1 for n in range(33)], [0xFFFF_FFFF >> n << n for n in range(33)]
+    some = [rng.getrandbits(32) for _ in range(8)]
+    ones = [1 << bit ^ rng.choice([0, 0xFFFF_FFFF]) for bit in rng.sample(range(32), 8)]
+    return [b"".join(packet(rng, HEADER, trigger=word) for word in rng.sample(words, len(words))) for words in (below, above, WORDS, some, ones)]
+
+
+KINDS = [sound, longest, many_sources, gaps, memory_sizes, offsets, stumbles, cuts, short, flipped, noise, trigger_words]
 
 
 def every(seed):
@@ -163,9 +178,9 @@ def sample():
     """Three orbits of three staves; a bunch counter and a stave number that are too high; at the end a header with a broken offset."""
     rng = random.Random("sample")
     chain = list(islice(readout(rng, range(HEADER, 513, 16)), 6 * len(SOURCES)))
-    chain[20] = packet(rng, 128, bc_reserved=0xDEC)
-    chain[33] = packet(rng, 96, fee_id=0x6030)
-    return b"".join(chain) + packet(rng, 256, offset=0)[:200]
+    chain[20] = packet(rng, 128, bc_reserved=0xDEC, trigger=SOUND["trigger"])
+    chain[33] = packet(rng, 96, fee_id=0x6030, trigger=SOUND["trigger"])
+    return b"".join(chain) + packet(rng, 256, offset=0, trigger=SOUND["trigger"])[:200]
 
 
 def to_time(rng, sizes, length):

@@ -10,10 +10,10 @@ import scan_model
 def recording():
     """Packets of links 1, 2 and 1, with 16 bytes, none and 32 bytes of payload, of which 8 are left."""
     data = bytearray(216)
-    for place, size, link in (0, 80, 1), (80, 64, 2), (144, 96, 1):
+    for place, size, link, trigger in (0, 80, 1, 0x1), (80, 64, 2, 0x3), (144, 96, 1, 0x5):
         for i, number in {2: link, 8: size, 10: size}.items():
             data[place + i:place + i + 2] = number.to_bytes(2, "little")
-        data[place + 12] = link
+        data[place + 12], data[place + 32] = link, trigger
     data[64], data[79] = 0xA0, 0xAF
     return bytes(data)
 
@@ -50,7 +50,8 @@ def line(number, answer, marks, st, ends):
         answer = ("packet", start, own, payload.hex())
     said = " ".join(map(str, ("made", number, *answer)))
     return said + (" cut" if marks.e100 else "") + (
-        f", place {st.place} position {st.position} counts {st.seen} {st.filtered} {st.payload}") + (", the end" if ends else "")
+        f", place {st.place} position {st.position} counts {st.seen} {st.filtered} {st.payload}"
+        " triggers {} {} {}".format(*st.triggers[:3])) + (", the end" if ends else "")
 
 
 def main():

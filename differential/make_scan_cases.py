@@ -8,18 +8,22 @@ import random
 import sys
 from itertools import product
 
-from make_recordings import header
+from make_recordings import WORDS, header
 
 LIMIT = 2**60
 FULL = 2**32 - 2  # the largest count that a scan goes on from
 MOST = 2**64 - 1
 UNUSED = [0xEEEE] * 4  # what stands in the places of the FEE list
+ALL = 0xFFFF_FFFF  # the trigger word with every bit
+LATE = [2**32 - 1] * 20  # trigger counts that go to 0 with the next word of their bit
+OWN = [100 * n for n in range(1, 21)]  # trigger counts of which no two are the same
 
-# Recordings. Each header has a trigger type of its own, so that no two are the same.
+# Recordings. Each header has a number of its own, so that no two are the same, and by its number a trigger word.
 
 
-def rdh(link, fee_id, offset, memory, number=0):
-    return header(link=link, fee_id=fee_id, offset=offset, memory=memory, trigger=0x4800_0000 + number, counter=number)
+def rdh(link, fee_id, offset, memory, number=0, word=None):
+    trigger = WORDS[number] if word is None else word
+    return header(link=link, fee_id=fee_id, offset=offset, memory=memory, trigger=trigger, counter=number)
 
 
 def filled(count):
@@ -30,6 +34,11 @@ def filled(count):
 def one(offset, memory):
     """A header with 8 bytes behind it, 72 in all."""
     return rdh(2, 0x502A, offset, memory) + filled(8)
+
+
+def triggered(words):
+    """A header of 64 bytes for each trigger word."""
+    return b"".join(rdh(1, 0x1001, 64, 64, number, word) for number, word in enumerate(words))
 
 
 def two(offset, memory):
@@ -78,11 +87,15 @@ def title(text):
     print("#", text)
 
 
-def begin(place=0, position=0, start="-", seen=0, filtered=0, payload=0, links=(), links_used=None, fees=UNUSED, fees_used=0, **settings):
-    """A state to call from. `start` is that of an open load; statistics are on unless `stats` is 0."""
+def begin(place=0, position=0, start="-", seen=0, filtered=0, payload=0, triggers=None, links=(), links_used=None, fees=UNUSED, fees_used=0,
+          **settings):
+    """A state to call from. `start` is that of an open load; statistics are on unless `stats` is 0, and trigger counts are 0 unless they are
+    given."""
     settings = dict(link="-", fee="-", stave="-", skip=0, stats=1) | settings
     say("settings", " ".join(["settings", *(f"{key}={value}" for key, value in settings.items())]))
     print("state", place, position, start, seen, filtered, payload)
+    if triggers:
+        print("triggers", *triggers)
     print("links", len(links) if links_used is None else links_used, *links)
     print("fees", len(fees), fees_used, *fees)
 
@@ -408,6 +421,41 @@ def payload_sum():
         name(one(72, 65), last(0, 72), position=640, seen=FULL, filtered=FULL, payload=FULL, link=2)
 
 
+def trigger_bits():
+    title("trigger words: each bit alone, from counts of their own; all bits but one, from counts at 2^32 - 1")
+    alone, others = [1 << bit for bit in range(32)], [ALL ^ 1 << bit for bit in range(32)]
+    for words, counts in ((alone, OWN), (others, LATE)):
+        begin(triggers=counts)
+        for _ in range(33):
+            load(triggered(words), last(0, 2048))
+    title("so many headers have a bit that no two bits have the same number, from below and from above")
+    for words in ([ALL >> n for n in range(33)], [ALL >> n << n for n in range(33)]):
+        record(triggered(words))
+        for setting in (dict(), dict(link=2), dict(skip=1, window=100), dict(loads=17), dict(stats=0)):
+            scan(**dict(stats=1, places=1, window=2112, brief=1) | setting)
+
+
+def trigger_counts():
+    title("trigger counts, with all else that is counted: with refusals 2, 3 and 4, but not with 2 for a later header")
+    r = rdh(2, 0x502A, 72, 72, word=ALL) + filled(8)
+    bad, small = (rdh(2, 0x502A, offset, memory, word=ALL) for offset, memory in ((63, 64), (72, 63)))
+    for counts in (OWN, LATE):
+        for recording, state in ((r, dict()), (r, dict(link=9)), (r, dict(link=2)), (r, dict(skip=1)), (bad, dict()), (bad, dict(start=576)),
+                                 (small, dict()), (small, dict(start=576)), (small, dict(link=9)), (r, dict(fees=[])), (bad, dict(fees=[]))):
+            examine(recording, last(0, len(recording)), triggers=counts, position=640, **state)
+        title("not with a want, with refusals 1 and 6, or without statistics")
+        for window, state in ((part(0, 63), dict()), (part(0, 71), dict()), (last(0, 63), dict()), (last(1, 72), dict()),
+                              (last(0, 72), dict(seen=FULL + 1)), (last(0, 72), dict(stats=0)), (last(0, 72), dict(stats=0, link=9))):
+            examine(r, window, triggers=counts, position=640, **state)
+    title("in a load: of the headers that it passes, and of the one that it comes to, unless that is wanted or refused with 2")
+    for counts in (OWN, LATE):
+        for recording, window in ((FOUR, last(0, 272)), (FOUR, part(0, 130)), (FOUR, part(0, 210)), (two(63, 64), last(0, 128)),
+                                  (two(72, 63), last(0, 128))):
+            for link in (3, 2):
+                load(recording, window, triggers=counts, position=640, link=link)
+    load(two(72, 64), last(0, 128), triggers=LATE, position=640, link=2, fees=UNUSED[:1])
+
+
 def places():
     title("the place comes to 2^60")
     r = one(64, 64)
@@ -493,12 +541,12 @@ def settings():
 
 def at_random():
     title("single calls at random")
-    some_calls(random.Random("stored"), 40)
+    some_calls("stored", 40)
 
 
 STORED = (end_of_recording, offset_of_a_first_header, offset_of_a_later_header, memory_size, fee_ids_full, unusable, nearly_unusable,
           open_load, refused_in_a_load, initial_mark, undone, wanted, cut, without_stats, offset_and_memory, windows, counts, payload_sum,
-          places, positions, lengths, sizes, settings, at_random)
+          trigger_bits, trigger_counts, places, positions, lengths, sizes, settings, at_random)
 
 
 # Single calls at random.
@@ -509,13 +557,24 @@ def near(rng, *edges):
     return max(0, rng.choice([0, *edges]) + rng.choice([-64, -8, -1, 0, 0, 0, 1, 8, 64]))
 
 
-def some_recording(rng):
+def some_word(rng):
+    """A trigger word: any, with each bit, with none, with one, or with all but one."""
+    one = 1 << rng.randrange(32)
+    return rng.choice([rng.getrandbits(32), rng.getrandbits(32), ALL, 0, one, ALL ^ one])
+
+
+def some_triggers(rng):
+    """Trigger counts: 0, or some numbers, among them the last before 2^32."""
+    return rng.choice([None, [rng.choice([0, rng.getrandbits(32), FULL, FULL + 1]) for _ in LATE]])
+
+
+def some_recording(rng, words):
     recording = b""
     for number in range(rng.choice([0, 1, 2, 3, 4, 5, 6])):
         memory = rng.choice([64, 64, 65, 72, 100, 300, 64 + 8, 63, 0, 65_535])
         usual = min(max(memory, 64), 10_064)
         offset = rng.choice([usual, usual, usual, usual, usual, 64, 80, 63, 10_064, 10_065, rng.randrange(65_536)])
-        recording += rdh(rng.randrange(1, 4), rng.choice([0x502A, 0x522A, 1]), offset, memory, number)
+        recording += rdh(rng.randrange(1, 4), rng.choice([0x502A, 0x522A, 1]), offset, memory, number, some_word(words))
         recording += rng.randbytes(max(0, min(memory, offset, 400) - 64))
     return recording[:rng.choice([None, None, rng.randrange(len(recording) + 1)])]
 
@@ -541,11 +600,13 @@ def some_state(rng, recording):
     return base, state | filters | dict(skip=rng.randrange(2), stats=rng.choice([0, 1, 1]))
 
 
-def some_calls(rng, count):
+def some_calls(seed, count):
+    """What concerns trigger counts is taken from numbers of its own."""
+    rng, words = random.Random(seed), random.Random(f"words {seed}")
     for _ in range(count):
-        recording = some_recording(rng)
+        recording = some_recording(rng, words)
         base, state = some_state(rng, recording)
-        begin(**state)
+        begin(**state, triggers=some_triggers(words))
         for _ in range(rng.randrange(1, 5)):
             start = rng.choice([0, 0, 0, 0, 0, 0, rng.randrange(len(recording) + 1)])
             end = rng.choice([len(recording), len(recording), rng.randrange(start, len(recording) + 1)])
@@ -559,6 +620,6 @@ if __name__ == "__main__":
             for cases in STORED:
                 cases()
         case ["random", seed, count]:
-            some_calls(random.Random(f"calls {seed}"), int(count))
+            some_calls(f"calls {seed}", int(count))
         case _:
             sys.exit(__doc__)

@@ -15,13 +15,14 @@ from pathlib import Path
 sys.path.insert(0, str(Path(__file__).resolve().parent.parent / "python"))
 import kesarimbu
 from kesarimbu import Kept, Marks, Packet, Passed, Refused, Settings, TriggerCounts, Validator, Want
+from make_recordings import header
 from words import NoCase, data, flag, form, form_of_keys, number8, number16, number32, number64, or_none
 
 FILL = b"~"  # what a lent buffer holds before
 ROOM = 4096  # its most bytes
 LONGEST = 1 << 28  # the most bytes of a recording
 FEE_IDS = 1 << 16  # the most places of a FEE list: there are no more FEE ids
-WORDS_AT_A_TIME = 1 << 20  # how many trigger words one call counts
+HEADERS_AT_A_TIME = 1 << 14  # how many headers one load passes to count a trigger word again and again
 
 
 def answers(lines):
@@ -102,9 +103,9 @@ def mark_lines(marks):
 
 
 def kept_lines(kept):
-    """The state, the used links and the place behind them, and all places of the FEE list."""
+    """The state, the trigger counts, the used links and the place behind them, and all places of the FEE list."""
     start = "-" if kept.load is None else kept.load
-    return [f"state {kept.place} {kept.position} {start} {kept.seen} {kept.filtered} {kept.payload}",
+    return [f"state {kept.place} {kept.position} {start} {kept.seen} {kept.filtered} {kept.payload}", numbers("triggers", *kept.triggers),
             numbers("links", kept.links_used, *kept.links[:kept.links_used + 1]), numbers("fees", kept.fee_ids_used, *kept.fee_ids)]
 
 
@@ -166,7 +167,19 @@ def scan_lines(recording, values):
             break
         more -= is_refused
         left = None if left is None else left - 1
-    return [*lines, numbers("counts", scan.kept.seen, scan.kept.filtered, scan.kept.payload)]
+    return [*lines, numbers("counts", scan.kept.seen, scan.kept.filtered, scan.kept.payload), numbers("triggers", *scan.kept.triggers)]
+
+
+def counted(counts, headers, settings):
+    """The trigger counts behind a scan of a recording, which starts from these counts. It must be a scan to the recording's end."""
+    scan = kesarimbu.Scan(settings, Kept(triggers=counts, fee_ids=array("H", [0])))
+    scan.lend(headers, 0, True)
+    answer = scan.load()
+    while isinstance(answer, Packet):
+        answer = scan.load()
+    if answer != Refused(1):
+        raise answer
+    return scan.kept.triggers
 
 
 class Lines:
@@ -245,21 +258,29 @@ class Lines:
             return f"validator {version} {its}"
         return f"validator - {its}" if settled is None else f"validator - {its} {settled}"
 
-    # Trigger statistics.
+    # Trigger statistics. Only scans count words: each word is the trigger type of a header of 64 bytes, and a recording of such headers is
+    # scanned to its end, with statistics, from the counts so far. So it is with the 2^32 - 1 words of `wrap`, too: no count is made by hand.
 
-    def triggers(self):
-        self.counts, self.expected = TriggerCounts(), TriggerCounts()
+    def set_triggers(self, counts):
+        """Two empty statistics, or with 20 numbers the trigger counts that single calls go on from."""
+        if not counts:
+            self.counts, self.expected = TriggerCounts(), TriggerCounts()
+        elif len(counts) == len(TriggerCounts._fields):
+            self.kept = replace(self.kept, triggers=counts)
+        else:
+            raise NoCase
 
     def count(self, words):
-        self.counts = kesarimbu.count_triggers(self.counts, words)
+        self.counts = counted(self.counts, b"".join(header(trigger=word) for word in words), Settings())
 
     def expect(self, words):
-        self.expected = kesarimbu.count_triggers(self.expected, words)
+        self.expected = counted(self.expected, b"".join(header(trigger=word) for word in words), Settings())
 
     def count_again(self, times, word):
-        words = array("I", [word]) * min(times, WORDS_AT_A_TIME)
-        for left in range(times, 0, -WORDS_AT_A_TIME):
-            self.counts = kesarimbu.count_triggers(self.counts, words[:left] if left < len(words) else words)
+        """Each load passes many headers, since none is of the link that it looks for; each recording starts from the counts before it."""
+        headers = memoryview(header(trigger=word, link=1) * min(times, HEADERS_AT_A_TIME))
+        for left in range(times, 0, -HEADERS_AT_A_TIME):
+            self.counts = counted(self.counts, headers[:64 * left], Settings(link=2))
 
     def trigger_list(self, length=None):
         return text_lines(partial(kesarimbu.trigger_list, self.counts), length, lines_in)
@@ -300,7 +321,8 @@ class Lines:
         self.settings = settings_of(values)
 
     def set_state(self, place, position, load, seen, filtered, payload):
-        self.kept = replace(self.kept, place=place, position=position, load=load, seen=seen, filtered=filtered, payload=payload)
+        self.kept = replace(self.kept, place=place, position=position, load=load, seen=seen, filtered=filtered, payload=payload,
+                            triggers=TriggerCounts())
 
     def set_links(self, used, links):
         self.kept = replace(self.kept, links=bytes(links[:256]), links_used=used)
@@ -345,7 +367,7 @@ FORMS = {
     "name": (Lines.name, form(data)),
     "validator": (Lines.set_validator, form(or_none(number8), flag, further=number8)),
     "verdict": (Lines.verdict, form(data, further=number64)),
-    "triggers": (Lines.triggers, form()),
+    "triggers": (Lines.set_triggers, form(many=number32)),
     "first": (Lines.count, form(many=number32)),
     "second": (Lines.expect, form(many=number32)),
     "again": (Lines.count_again, form(number64, number32)),

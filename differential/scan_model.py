@@ -12,6 +12,7 @@ import sys
 
 LIMIT = 2**60  # no place, position or window end is above it
 FULL = 2**32 - 1  # a count that comes to it goes to 0 and is marked
+TRIGGER_BITS = [*range(15), *range(27, 32)]  # the bits of a trigger word that are counted, in the order of the counts
 
 
 class Settings:
@@ -39,6 +40,7 @@ class State:
         self.place = self.position = 0
         self.load = None  # where an open load started
         self.seen = self.filtered = self.payload = 0
+        self.triggers = [0] * 20
         self.links, self.links_used = [0] * 256, 0
         self.fees, self.fees_used = [], 0
 
@@ -77,11 +79,14 @@ def is_unusable(st):
 
 
 def count(st, h, marks):
-    """Counts seen, link and FEE id. Answers whether refusal 4 is met."""
+    """Counts seen, the trigger word, link and FEE id. Answers whether refusal 4 is met."""
     st.seen += 1
     if st.seen == FULL:
         st.seen = 0
         marks.seen += 1
+    for i, bit in enumerate(TRIGGER_BITS):
+        if h.trigger_type // 2**bit % 2 == 1:
+            st.triggers[i] = (st.triggers[i] + 1) % 2**32
     if h.link not in st.links[:st.links_used]:
         st.links[st.links_used] = h.link
         st.links_used += 1
@@ -245,10 +250,14 @@ def mark_lines(marks):
     return lines
 
 
+def trigger_line(st):
+    return " ".join(map(str, ["triggers", *st.triggers]))
+
+
 def state_lines(st):
     shown = st.links[:min(st.links_used, 255) + 1]
     start = "-" if st.load is None else st.load
-    return [f"state {st.place} {st.position} {start} {st.seen} {st.filtered} {st.payload}",
+    return [f"state {st.place} {st.position} {start} {st.seen} {st.filtered} {st.payload}", trigger_line(st),
             " ".join(map(str, ["links", st.links_used, *shown])),
             " ".join(map(str, ["fees", st.fees_used, *st.fees]))]
 
@@ -292,7 +301,7 @@ def scan_lines(values, recording):
             if more == 0:
                 break
             more -= 1
-    return lines + [f"counts {st.seen} {st.filtered} {st.payload}"]
+    return lines + [f"counts {st.seen} {st.filtered} {st.payload}", trigger_line(st)]
 
 
 class Lines:
@@ -325,6 +334,9 @@ class Lines:
             case "state":
                 st.load = None if words[2] == "-" else int(words[2])
                 st.place, st.position, st.seen, st.filtered, st.payload = (int(words[i]) for i in (0, 1, 3, 4, 5))
+                st.triggers = [0] * 20
+            case "triggers" if len(words) == 20:
+                st.triggers = list(map(int, words))
             case "links":
                 st.links_used, *listed = map(int, words)
                 st.links = (listed + [0] * 256)[:256]
@@ -369,6 +381,7 @@ def selftest():
         settings.skip, settings.stats = rng.random() < 0.5, rng.random() < 0.7
         st.fees = [7] * rng.randint(0, 4)
         st.seen = st.filtered = st.payload = rng.choice([0, FULL - 1, FULL - 2])
+        st.triggers = [rng.choice([0, 5, FULL, FULL - 1]) for _ in st.triggers]
         expected, found = chain(settings, st, recording), []
         while not found or found[-1][0][0] != "refused":
             first = rng.randint(0, min(st.place, len(recording)))

@@ -12,9 +12,10 @@
 #include <unistd.h>
 
 /* The crate `bench`. A slice is a pointer and a length. */
-uint64_t kesarimbu_load_all(int fd, uint8_t *buffer, size_t length, bool whole, uint16_t *fee_ids, size_t places, bool skip, bool stats);
+uint64_t kesarimbu_load_all(int fd, uint8_t *buffer, size_t length, bool whole, uint32_t *triggers, uint16_t *fee_ids, size_t places,
+                            bool skip, bool stats);
 
-enum { HEADER = 64, FARTHEST = 10064, MOST_TIMES = 1000, WINDOW = 65536, PLACES = 4096 };
+enum { HEADER = 64, FARTHEST = 10064, MOST_TIMES = 1000, WINDOW = 65536, TRIGGERS = 20, PLACES = 4096 };
 enum reader { LIMIT, MEMORY, FROM_FILE };
 
 struct recording {
@@ -47,9 +48,10 @@ static uint64_t follow(const uint8_t *bytes, size_t length, bool skip)
 static uint64_t load_file(const char *path, bool skip, bool stats)
 {
     static uint8_t window[WINDOW];
+    static uint32_t triggers[TRIGGERS];
     static uint16_t fee_ids[PLACES];
     int fd = open(path, O_RDONLY);
-    uint64_t packets = fd < 0 ? 0 : kesarimbu_load_all(fd, window, WINDOW, false, fee_ids, PLACES, skip, stats);
+    uint64_t packets = fd < 0 ? 0 : kesarimbu_load_all(fd, window, WINDOW, false, triggers, fee_ids, PLACES, skip, stats);
     if (fd >= 0)
         close(fd);
     return packets;
@@ -57,11 +59,12 @@ static uint64_t load_file(const char *path, bool skip, bool stats)
 
 static uint64_t read_all(enum reader reader, const struct recording *r, bool skip, bool stats)
 {
+    static uint32_t triggers[TRIGGERS];
     static uint16_t fee_ids[PLACES];
     if (reader == LIMIT)
         return follow(r->bytes, r->length, skip);
     if (reader == MEMORY)
-        return kesarimbu_load_all(-1, r->bytes, r->length, true, fee_ids, PLACES, skip, stats);
+        return kesarimbu_load_all(-1, r->bytes, r->length, true, triggers, fee_ids, PLACES, skip, stats);
     return load_file(r->path, skip, stats);
 }
 

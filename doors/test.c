@@ -160,26 +160,22 @@ static void verdicts(void)
     CHECK(!c.sound && c.validator.its);
 }
 
-static void triggers(void)
+static void trigger_texts(void)
 {
-    static const uint32_t words[] = {0x4813, 0x80000001};
+    static const uint32_t counts[KESARIMBU_TRIGGERS] = {2, 1, [4] = 1, [11] = 1, [14] = 1, [19] = 1};
+    static const uint32_t other[KESARIMBU_TRIGGERS] = {0, 3, [4] = 1, [11] = 1, [14] = 1};
     static const char lines[] = "orbit mismatch! expected: 0, got: 2\n"
                                 "hb mismatch! expected: 3, got: 1\n"
                                 "tof mismatch! expected: 0, got: 1\n";
-    struct kesarimbu_trigger_counts none = {0}, c = kesarimbu_count_triggers(none, words, 2);
     uint8_t out[TEXT];
-    CHECK(c.orbit == 2 && c.hb == 1 && c.hbr == 0 && c.pht == 1 && c.tf == 1 && c.rs == 1 && c.tof == 1 && c.tpc_rst == 0);
-    struct kesarimbu_text t = kesarimbu_trigger_list(c, out, sizeof out);
-    CHECK(t.refusal == 0 && memcmp(out, "Trigger statistics:\n  Orbit:         2\n", 39) == 0);
-    CHECK(kesarimbu_trigger_list(c, out, 3).refusal == KESARIMBU_BUFFER_TOO_SHORT);
-    struct kesarimbu_trigger_counts other = c;
-    other.tof = 0;
-    other.hb = 3;
-    other.orbit = 0;
-    t = kesarimbu_trigger_compare(c, other, out, sizeof out);
-    CHECK(t.refusal == 0 && t.length == strlen(lines) && memcmp(out, lines, t.length) == 0);
-    CHECK(kesarimbu_trigger_compare(c, c, out, 0).length == 0);
-    CHECK(kesarimbu_trigger_compare(c, other, out, 3).length == strlen(lines));
+    struct kesarimbu_text t = kesarimbu_trigger_list(counts, out, sizeof out);
+    CHECK(t.refusal == 0 && memcmp(out, "Trigger statistics:\n  Orbit:         2\n  HB:            1\n", 58) == 0);
+    CHECK(t.length == 400 && memcmp(out + 381, "  TOF:           1\n", 19) == 0);
+    CHECK(kesarimbu_trigger_list(counts, out, 3).refusal == KESARIMBU_BUFFER_TOO_SHORT);
+    t = kesarimbu_trigger_compare(counts, other, out, sizeof out);
+    CHECK(t.refusal == 0 && starts_with(out, t.length, lines));
+    CHECK(kesarimbu_trigger_compare(counts, counts, out, 0).length == 0);
+    CHECK(kesarimbu_trigger_compare(counts, other, out, 3).length == strlen(lines));
 }
 
 /* A recording of three packets of 72, 64 and 72 bytes, from links 2, 3 and 2. */
@@ -203,6 +199,7 @@ static struct recording recorded(void)
 /* What a scan is lent. */
 struct lent {
     uint8_t links[KESARIMBU_LINKS];
+    uint32_t triggers[KESARIMBU_TRIGGERS];
     uint16_t fee_ids[PLACES];
     uint8_t header[KESARIMBU_HEADER_SIZE];
 };
@@ -210,43 +207,45 @@ struct lent {
 static void examinations(void)
 {
     struct recording r = recorded();
-    struct lent lent = {{0}, {0}, {0}};
+    struct lent lent = {{0}, {0}, {0}, {0}};
     struct kesarimbu_settings by_link = {.by_link = true, .link = 3, .stats = true};
     struct kesarimbu_state begin = {0};
-    struct kesarimbu_reply e = kesarimbu_examine(by_link, begin, lent.links, lent.fee_ids, PLACES, r.bytes, 63, 0, false, lent.header);
+    struct kesarimbu_reply e = kesarimbu_examine(by_link, begin, lent.links, lent.triggers, lent.fee_ids, PLACES, r.bytes, 63, 0, false,
+                                                 lent.header);
     CHECK(e.answer.kind == KESARIMBU_WANT && e.answer.want_place == 0 && e.answer.want_size == 64 && e.state.seen == 0);
-    e = kesarimbu_examine(by_link, e.state, lent.links, lent.fee_ids, PLACES, r.bytes, 64, 0, false, lent.header);
+    e = kesarimbu_examine(by_link, e.state, lent.links, lent.triggers, lent.fee_ids, PLACES, r.bytes, 64, 0, false, lent.header);
     CHECK(e.answer.kind == KESARIMBU_PASSED && lent.header[0] == 0 && e.state.load_open && e.state.load_start == 0);
     CHECK(e.marks.initial && e.marks.trigger_type == 0x4813 && e.marks.data_format == 2 && e.marks.system_id == 32);
     CHECK(e.state.place == SEVENTY_TWO && e.state.position == SEVENTY_TWO && e.state.seen == 1 && e.state.filtered == 0);
-    e = kesarimbu_examine(by_link, e.state, lent.links, lent.fee_ids, PLACES, r.bytes + 1, sizeof r.bytes - 1, 1, true, lent.header);
+    e = kesarimbu_examine(by_link, e.state, lent.links, lent.triggers, lent.fee_ids, PLACES, r.bytes + 1, sizeof r.bytes - 1, 1, true,
+                          lent.header);
     CHECK(e.answer.kind == KESARIMBU_PACKET && e.answer.position == 0 && e.answer.own == SEVENTY_TWO);
     CHECK(e.answer.payload_length == 0 && !e.marks.initial);
     CHECK(memcmp(lent.header, r.bytes + SEVENTY_TWO, sizeof lent.header) == 0 && !e.state.load_open);
     CHECK(e.state.links_used == 2 && lent.links[0] == 2 && lent.links[1] == 3);
     CHECK(e.state.fee_ids_used == 2 && lent.fee_ids[0] == 0x502A && lent.fee_ids[1] == 0x1001 && lent.fee_ids[2] == 0);
-    e = kesarimbu_examine(by_link, e.state, lent.links, lent.fee_ids, 1, r.bytes, sizeof r.bytes, 0, true, lent.header);
+    e = kesarimbu_examine(by_link, e.state, lent.links, lent.triggers, lent.fee_ids, 1, r.bytes, sizeof r.bytes, 0, true, lent.header);
     CHECK(e.answer.kind == KESARIMBU_REFUSED && e.answer.refusal == KESARIMBU_UNUSABLE && e.state.seen == 2);
 }
 
 static void loads(void)
 {
     struct recording r = recorded();
-    struct lent lent = {{0}, {0}, {0}};
+    struct lent lent = {{0}, {0}, {0}, {0}};
     struct kesarimbu_settings settings = {.by_stave = true, .stave = 0x522A, .stats = true};
     struct kesarimbu_reply l = {0};
-    l = kesarimbu_load(settings, l.state, lent.links, lent.fee_ids, PLACES, r.bytes, sizeof r.bytes - 1, 0, true, lent.header);
+    l = kesarimbu_load(settings, l.state, lent.links, lent.triggers, lent.fee_ids, PLACES, r.bytes, sizeof r.bytes - 1, 0, true, lent.header);
     CHECK(l.answer.kind == KESARIMBU_PACKET && l.answer.payload_start == 64 && l.answer.payload_length == 8);
     CHECK(l.answer.position == 0 && l.answer.own == 0);
-    l = kesarimbu_load(settings, l.state, lent.links, lent.fee_ids, PLACES, r.bytes, sizeof r.bytes - 1, 0, true, lent.header);
+    l = kesarimbu_load(settings, l.state, lent.links, lent.triggers, lent.fee_ids, PLACES, r.bytes, sizeof r.bytes - 1, 0, true, lent.header);
     CHECK(l.answer.kind == KESARIMBU_PACKET && l.answer.payload_length == 0 && l.marks.payload_cut);
     CHECK(l.answer.position == SEVENTY_TWO && l.answer.own == SEVENTY_TWO + KESARIMBU_HEADER_SIZE);
     CHECK(l.state.seen == 3 && l.state.filtered == 2 && l.state.payload == 16);
-    l = kesarimbu_load(settings, l.state, lent.links, lent.fee_ids, PLACES, r.bytes, sizeof r.bytes - 1, 0, true, lent.header);
+    l = kesarimbu_load(settings, l.state, lent.links, lent.triggers, lent.fee_ids, PLACES, r.bytes, sizeof r.bytes - 1, 0, true, lent.header);
     CHECK(l.answer.kind == KESARIMBU_REFUSED && l.answer.refusal == KESARIMBU_END);
     struct kesarimbu_state begin = {0};
     r.bytes[8] = 63;
-    l = kesarimbu_load(settings, begin, lent.links, lent.fee_ids, PLACES, r.bytes, sizeof r.bytes, 0, true, lent.header);
+    l = kesarimbu_load(settings, begin, lent.links, lent.triggers, lent.fee_ids, PLACES, r.bytes, sizeof r.bytes, 0, true, lent.header);
     CHECK(l.answer.kind == KESARIMBU_REFUSED && l.answer.refusal == KESARIMBU_OFFSET && l.answer.distance == -1);
 }
 
@@ -254,33 +253,185 @@ static void listings(void)
 {
     static const char last[] = "seen 3\nfiltered 0\npayload 16\nend 1\n";
     struct recording r = recorded();
-    struct lent lent = {{0}, {0}, {0}};
+    struct lent lent = {{0}, {0}, {0}, {0}};
     struct kesarimbu_settings settings = {.stats = true};
     struct kesarimbu_listed l = {0};
     uint8_t out[TEXT];
     r.bytes[1] = 63;
-    l = kesarimbu_list(settings, l.state, l.validator, lent.links, lent.fee_ids, PLACES, r.bytes, sizeof r.bytes, 0, true, out, 1023);
+    l = kesarimbu_list(settings, l.state, l.validator, lent.links, lent.triggers, lent.fee_ids, PLACES, r.bytes, sizeof r.bytes, 0, true,
+                       out, 1023);
     CHECK(l.answer.kind == KESARIMBU_REFUSED && l.answer.refusal == KESARIMBU_BUFFER_TOO_SHORT && l.length == KESARIMBU_LEAST_ROOM);
-    CHECK(l.state.seen == 0 && !l.validator.settled);
-    l = kesarimbu_list(settings, l.state, l.validator, lent.links, lent.fee_ids, PLACES, r.bytes, 100, 0, false, out, 1024);
+    CHECK(l.state.seen == 0 && !l.validator.settled && lent.triggers[4] == 0);
+    l = kesarimbu_list(settings, l.state, l.validator, lent.links, lent.triggers, lent.fee_ids, PLACES, r.bytes, 100, 0, false, out, 1024);
     CHECK(l.answer.kind == KESARIMBU_FULL && l.unsound == 1 && memcmp(out, "0x0: 7 ", 7) == 0 && l.validator.settled);
-    l = kesarimbu_list(settings, l.state, l.validator, lent.links, lent.fee_ids, PLACES, r.bytes, 100, 0, false, out, sizeof out);
+    CHECK(lent.triggers[4] == 1);
+    l = kesarimbu_list(settings, l.state, l.validator, lent.links, lent.triggers, lent.fee_ids, PLACES, r.bytes, 100, 0, false, out,
+                       sizeof out);
     CHECK(l.answer.kind == KESARIMBU_WANT && l.answer.want_place == SEVENTY_TWO && l.answer.want_size == 64 && l.length == 0);
-    l = kesarimbu_list(settings, l.state, l.validator, lent.links, lent.fee_ids, PLACES, r.bytes, sizeof r.bytes, 0, true, out, sizeof out);
+    CHECK(lent.triggers[4] == 1);
+    l = kesarimbu_list(settings, l.state, l.validator, lent.links, lent.triggers, lent.fee_ids, PLACES, r.bytes, sizeof r.bytes, 0, true,
+                       out, sizeof out);
     CHECK(l.answer.kind == KESARIMBU_REFUSED && l.answer.refusal == KESARIMBU_END && l.unsound == 0 && l.state.seen == 3);
     CHECK(memcmp(out, "0x48: 7 ", 8) == 0 && memcmp(out + l.length - strlen(last), last, strlen(last)) == 0);
+    CHECK(lent.triggers[4] == 3 && lent.triggers[5] == 0);
 }
 
 /* With a filter a line has the packet's own position, and not that of the header which was passed before it. */
 static void filtered_listings(void)
 {
     struct recording r = recorded();
-    struct lent lent = {{0}, {0}, {0}};
+    struct lent lent = {{0}, {0}, {0}, {0}};
     struct kesarimbu_settings by_link = {.by_link = true, .link = 3, .stats = true};
     struct kesarimbu_listed l = {0};
     uint8_t out[TEXT];
-    l = kesarimbu_list(by_link, l.state, l.validator, lent.links, lent.fee_ids, PLACES, r.bytes, sizeof r.bytes, 0, true, out, sizeof out);
+    l = kesarimbu_list(by_link, l.state, l.validator, lent.links, lent.triggers, lent.fee_ids, PLACES, r.bytes, sizeof r.bytes, 0, true,
+                       out, sizeof out);
     CHECK(l.answer.refusal == KESARIMBU_END && l.state.filtered == 1 && memcmp(out, "0x48: 7 ", 8) == 0);
+}
+
+/* What is lent, with all trigger counts at `n`. */
+static struct lent lent_with(uint32_t n)
+{
+    struct lent lent = {{0}, {0}, {0}, {0}};
+    for (size_t i = 0; i < KESARIMBU_TRIGGERS; i++)
+        lent.triggers[i] = n;
+    return lent;
+}
+
+/* Whether all counts were `n` and this word was counted: each is one more that has its bit, modulo 2^32. */
+static bool counted(const struct lent *lent, uint32_t n, uint32_t word)
+{
+    static const uint32_t bits[KESARIMBU_TRIGGERS] = {0, 1, 2, 3, 4, 5, 6, 7, 8, 9, 10, 11, 12, 13, 14, 27, 28, 29, 30, 31};
+    for (size_t i = 0; i < KESARIMBU_TRIGGERS; i++)
+        if (lent->triggers[i] != n + (word >> bits[i] & 1))
+            return false;
+    return true;
+}
+
+/* Examines the first `length` bytes of a header, which stands where the state is. */
+static struct kesarimbu_reply examined(struct kesarimbu_settings settings, struct kesarimbu_state state, struct lent *lent,
+                                       struct kesarimbu_header header, size_t length, bool last)
+{
+    uint8_t bytes[KESARIMBU_HEADER_SIZE];
+    kesarimbu_encode(header, bytes, sizeof bytes);
+    return kesarimbu_examine(settings, state, lent->links, lent->triggers, lent->fee_ids, PLACES, bytes, length, state.place, last,
+                             lent->header);
+}
+
+static void trigger_bits(void)
+{
+    struct kesarimbu_settings settings = {.stats = true};
+    struct kesarimbu_state begin = {0};
+    struct kesarimbu_header h = sound(64, 64);
+    for (uint32_t bit = 0; bit < 32; bit++) {
+        struct lent lent = lent_with(0);
+        h.trigger_type = (uint32_t)1 << bit;
+        struct kesarimbu_reply e = examined(settings, begin, &lent, h, 64, true);
+        CHECK(e.answer.kind == KESARIMBU_PACKET && counted(&lent, 0, h.trigger_type));
+    }
+    struct lent lent = lent_with(0);
+    h.trigger_type = 0x88004001;
+    examined(settings, begin, &lent, h, 64, true);
+    CHECK(lent.triggers[0] == 1 && lent.triggers[14] == 1 && lent.triggers[15] == 1 && lent.triggers[19] == 1 && lent.triggers[13] == 0);
+}
+
+/* Counts may be any numbers: one that steps over 2^32 - 1 starts again at 0, with no mark, and none stops at 2^32 - 1. */
+static void trigger_counts_at_their_end(void)
+{
+    struct kesarimbu_settings settings = {.stats = true};
+    struct kesarimbu_state begin = {0};
+    struct kesarimbu_header h = sound(64, 64);
+    h.trigger_type = 0xFFFFFFFF;
+    for (uint32_t n = 0xFFFFFFFD; n != 1; n++) {
+        struct lent lent = lent_with(n);
+        struct kesarimbu_reply e = examined(settings, begin, &lent, h, 64, true);
+        CHECK(e.answer.kind == KESARIMBU_PACKET && counted(&lent, n, h.trigger_type) && lent.triggers[7] == (n == 0xFFFFFFFF ? 0 : n + 1));
+        CHECK(e.marks.seen_carries == 0 && !e.marks.filtered_carry && !e.marks.payload_carry && e.state.seen == 1);
+    }
+}
+
+/* A header that is seen is counted, whatever becomes of it. */
+static void headers_counted(void)
+{
+    struct kesarimbu_settings settings = {.stats = true}, by_link = {.by_link = true, .link = 3, .stats = true};
+    struct kesarimbu_state begin = {0}, full = {.fee_ids_used = PLACES};
+    struct lent lent = lent_with(5);
+    struct kesarimbu_reply e = examined(by_link, begin, &lent, sound(64, 64), 64, true);
+    CHECK(e.answer.kind == KESARIMBU_PASSED && counted(&lent, 5, 0x4813));
+    lent = lent_with(5);
+    e = examined(settings, begin, &lent, sound(63, 64), 64, true);
+    CHECK(e.answer.refusal == KESARIMBU_OFFSET && e.state.seen == 1 && counted(&lent, 5, 0x4813));
+    lent = lent_with(5);
+    e = examined(settings, begin, &lent, sound(64, 63), 64, true);
+    CHECK(e.answer.refusal == KESARIMBU_MEMORY_SIZE && e.state.seen == 1 && counted(&lent, 5, 0x4813));
+    lent = lent_with(5);
+    e = examined(settings, full, &lent, sound(64, 64), 64, true);
+    CHECK(e.answer.refusal == KESARIMBU_FEE_IDS_FULL && e.state.seen == 1 && counted(&lent, 5, 0x4813));
+    lent = lent_with(5);
+    e = examined(settings, begin, &lent, sound(72, 72), 64, true);
+    CHECK(e.answer.kind == KESARIMBU_PACKET && e.marks.payload_cut && counted(&lent, 5, 0x4813));
+}
+
+/* A header that is not seen is not counted: a later one with a bad offset, one that is wanted or lacks, and any where the call is refused
+   with 6 or has no statistics. */
+static void headers_not_counted(void)
+{
+    struct kesarimbu_settings settings = {.stats = true}, by_link = {.by_link = true, .link = 3, .stats = true}, no_stats = {0};
+    struct kesarimbu_state begin = {0}, unusable = {.seen = 0xFFFFFFFF};
+    struct lent lent = lent_with(5);
+    struct kesarimbu_reply e = examined(by_link, begin, &lent, sound(64, 64), 64, true);
+    e = examined(by_link, e.state, &lent, sound(63, 64), 64, true);
+    CHECK(e.answer.refusal == KESARIMBU_OFFSET && e.state.seen == 1 && counted(&lent, 5, 0x4813)); /* that of the first */
+    lent = lent_with(5);
+    e = examined(settings, begin, &lent, sound(64, 64), 63, false);
+    CHECK(e.answer.kind == KESARIMBU_WANT && e.answer.want_size == 64 && counted(&lent, 5, 0));
+    e = examined(settings, begin, &lent, sound(72, 72), 64, false);
+    CHECK(e.answer.kind == KESARIMBU_WANT && e.answer.want_size == 72 && counted(&lent, 5, 0));
+    e = examined(settings, begin, &lent, sound(64, 64), 63, true);
+    CHECK(e.answer.refusal == KESARIMBU_END && counted(&lent, 5, 0));
+    e = examined(settings, unusable, &lent, sound(64, 64), 64, true);
+    CHECK(e.answer.refusal == KESARIMBU_UNUSABLE && counted(&lent, 5, 0));
+    e = examined(no_stats, begin, &lent, sound(64, 64), 64, true);
+    CHECK(e.answer.kind == KESARIMBU_PACKET && counted(&lent, 5, 0));
+}
+
+/* A load that passed a header and then wants more has counted that header, and the next call does not count it again. */
+static void passed_headers_before_a_want(void)
+{
+    struct recording r = recorded();
+    struct lent lent = lent_with(5);
+    struct kesarimbu_settings by_link = {.by_link = true, .link = 3, .stats = true};
+    struct kesarimbu_reply l = {0};
+    l = kesarimbu_load(by_link, l.state, lent.links, lent.triggers, lent.fee_ids, PLACES, r.bytes, 100, 0, false, lent.header);
+    CHECK(l.answer.kind == KESARIMBU_WANT && l.answer.want_place == SEVENTY_TWO && l.state.seen == 1 && counted(&lent, 5, 0x4813));
+    l = kesarimbu_load(by_link, l.state, lent.links, lent.triggers, lent.fee_ids, PLACES, r.bytes, sizeof r.bytes, 0, true, lent.header);
+    CHECK(l.answer.kind == KESARIMBU_PACKET && l.state.seen == 2 && lent.triggers[4] == 7 && lent.triggers[5] == 5);
+}
+
+/* One recording with a filter by examinations, by loads and by a listing: the counts are the same, and those of all three headers. */
+static void trigger_counts_of_each_call(void)
+{
+    static const uint32_t expected[KESARIMBU_TRIGGERS] = {3, 2, [4] = 2, [11] = 2, [14] = 2, [17] = 1, [19] = 1};
+    struct recording r = recorded();
+    struct lent by_one = lent_with(0), by_load = lent_with(0), by_list = lent_with(0);
+    struct kesarimbu_settings by_link = {.by_link = true, .link = 3, .stats = true};
+    struct kesarimbu_reply e = {0}, l = {0};
+    struct kesarimbu_listed listed = {0};
+    uint8_t out[TEXT];
+    struct kesarimbu_header second = kesarimbu_decode(r.bytes + SEVENTY_TWO, KESARIMBU_HEADER_SIZE).header;
+    second.trigger_type = 0xA0008001;
+    kesarimbu_encode(second, r.bytes + SEVENTY_TWO, KESARIMBU_HEADER_SIZE);
+    while (e.answer.kind != KESARIMBU_REFUSED)
+        e = kesarimbu_examine(by_link, e.state, by_one.links, by_one.triggers, by_one.fee_ids, PLACES, r.bytes, sizeof r.bytes, 0, true,
+                              by_one.header);
+    while (l.answer.kind != KESARIMBU_REFUSED)
+        l = kesarimbu_load(by_link, l.state, by_load.links, by_load.triggers, by_load.fee_ids, PLACES, r.bytes, sizeof r.bytes, 0, true,
+                           by_load.header);
+    listed = kesarimbu_list(by_link, listed.state, listed.validator, by_list.links, by_list.triggers, by_list.fee_ids, PLACES, r.bytes,
+                            sizeof r.bytes, 0, true, out, sizeof out);
+    CHECK(e.answer.refusal == KESARIMBU_END && memcmp(by_one.triggers, expected, sizeof expected) == 0);
+    CHECK(l.answer.refusal == KESARIMBU_END && memcmp(by_load.triggers, expected, sizeof expected) == 0);
+    CHECK(listed.answer.refusal == KESARIMBU_END && memcmp(by_list.triggers, expected, sizeof expected) == 0);
 }
 
 #define SIZE(s) printf("struct %s size %zu\n", #s, sizeof(struct s))
@@ -348,31 +499,6 @@ static void layout_of_texts_and_names(void)
     FIELD(kesarimbu_checked, validator);
 }
 
-static void layout_of_triggers(void)
-{
-    SIZE(kesarimbu_trigger_counts);
-    FIELD(kesarimbu_trigger_counts, orbit);
-    FIELD(kesarimbu_trigger_counts, hb);
-    FIELD(kesarimbu_trigger_counts, hbr);
-    FIELD(kesarimbu_trigger_counts, hc);
-    FIELD(kesarimbu_trigger_counts, pht);
-    FIELD(kesarimbu_trigger_counts, pp);
-    FIELD(kesarimbu_trigger_counts, cal);
-    FIELD(kesarimbu_trigger_counts, sot);
-    FIELD(kesarimbu_trigger_counts, eot);
-    FIELD(kesarimbu_trigger_counts, soc);
-    FIELD(kesarimbu_trigger_counts, eoc);
-    FIELD(kesarimbu_trigger_counts, tf);
-    FIELD(kesarimbu_trigger_counts, fe_rst);
-    FIELD(kesarimbu_trigger_counts, rt);
-    FIELD(kesarimbu_trigger_counts, rs);
-    FIELD(kesarimbu_trigger_counts, lhc_gap1);
-    FIELD(kesarimbu_trigger_counts, lhc_gap2);
-    FIELD(kesarimbu_trigger_counts, tpc_sync);
-    FIELD(kesarimbu_trigger_counts, tpc_rst);
-    FIELD(kesarimbu_trigger_counts, tof);
-}
-
 static void layout_of_a_scan(void)
 {
     SIZE(kesarimbu_settings);
@@ -437,7 +563,6 @@ int main(int argc, char **argv)
     if (argc == 2 && strcmp(argv[1], "layout") == 0) {
         layout_of_headers();
         layout_of_texts_and_names();
-        layout_of_triggers();
         layout_of_a_scan();
         layout_of_replies();
         return 0;
@@ -448,11 +573,17 @@ int main(int argc, char **argv)
     staves();
     filters_by_name();
     verdicts();
-    triggers();
+    trigger_texts();
     examinations();
     loads();
     listings();
     filtered_listings();
+    trigger_bits();
+    trigger_counts_at_their_end();
+    headers_counted();
+    headers_not_counted();
+    passed_headers_before_a_want();
+    trigger_counts_of_each_call();
     printf("%d passed, %d failed\n", passed, failed);
     return failed != 0;
 }

@@ -12,8 +12,8 @@
    - No buffer that a call may write overlaps another one of that call, and nobody else writes any of them meanwhile.
    - A bool is 0 or 1, as C's own conversions make it.
 
-   Structs go in and come back by value. What is large is lent, and belongs to the caller before and after the call. A struct that is all
-   zeros is a beginning: of settings (no filter, payload read, no statistics), a state, a validator and trigger counts.
+   Structs go in and come back by value. What is large is lent, and belongs to the caller before and after the call. All zeros are a
+   beginning: of settings (no filter, payload read, no statistics), a state, a validator, and the lists and trigger counts that are lent.
 
    An example: count the packets of a file, window by window.
 
@@ -24,6 +24,7 @@
        int main(int argc, char **argv)
        {
            static uint8_t window[1 << 20], links[KESARIMBU_LINKS], header[KESARIMBU_HEADER_SIZE];
+           static uint32_t triggers[KESARIMBU_TRIGGERS];
            static uint16_t fee_ids[4096];
            struct kesarimbu_settings settings = {.stats = true};
            struct kesarimbu_reply reply = {0};
@@ -33,7 +34,8 @@
            if (!file)
                return 2;
            do {
-               reply = kesarimbu_load(settings, reply.state, links, fee_ids, 4096, window, length, first, feof(file) != 0, header);
+               reply = kesarimbu_load(settings, reply.state, links, triggers, fee_ids, 4096, window, length, first, feof(file) != 0,
+                                      header);
                packets += reply.answer.kind == KESARIMBU_PACKET;
                if (reply.answer.kind == KESARIMBU_WANT) {
                    size_t done = (size_t)(reply.answer.want_place - first);
@@ -61,10 +63,12 @@ extern "C" {
 enum {
     KESARIMBU_HEADER_SIZE = 64, /* bytes of a header */
     KESARIMBU_LINKS = 256,      /* bytes of the list of links */
+    KESARIMBU_TRIGGERS = 20,    /* trigger counts, of 32 bits each */
     KESARIMBU_LEAST_ROOM = 1024 /* bytes of the shortest buffer that kesarimbu_list takes */
 };
 
-/* Why a call was refused. 0 is no refusal, and there is no 5. */
+/* Why a call was refused. 0 is no refusal, and there is no 5. A header that is refused with 3 or 4 was seen and is counted, and so is one
+   that is refused with 2, unless a load was open. */
 enum kesarimbu_refusal {
     KESARIMBU_END = 1,              /* fewer than 64 bytes are left: the end of the recording */
     KESARIMBU_OFFSET = 2,           /* the offset to the next packet is below 64 or above 10,064 */
@@ -167,29 +171,11 @@ struct kesarimbu_checked {
     struct kesarimbu_validator validator;
 };
 
-/* How many trigger words had each bit, modulo 2^32: bits 0 to 14, then 27 to 31. */
-struct kesarimbu_trigger_counts {
-    uint32_t orbit;
-    uint32_t hb;
-    uint32_t hbr;
-    uint32_t hc;
-    uint32_t pht;
-    uint32_t pp;
-    uint32_t cal;
-    uint32_t sot;
-    uint32_t eot;
-    uint32_t soc;
-    uint32_t eoc;
-    uint32_t tf;
-    uint32_t fe_rst;
-    uint32_t rt;
-    uint32_t rs;
-    uint32_t lhc_gap1;
-    uint32_t lhc_gap2;
-    uint32_t tpc_sync;
-    uint32_t tpc_rst;
-    uint32_t tof;
-};
+/* The trigger counts, which are lent, are KESARIMBU_TRIGGERS numbers: how many of the headers seen had each bit of a trigger in their
+   `trigger_type`, modulo 2^32. No mark tells of a count that starts again at 0. Which count stands at which place:
+
+       bits 0 to 14    0 orbit, 1 hb, 2 hbr, 3 hc, 4 pht, 5 pp, 6 cal, 7 sot, 8 eot, 9 soc, 10 eoc, 11 tf, 12 fe_rst, 13 rt, 14 rs
+       bits 27 to 31   15 lhc_gap1, 16 lhc_gap2, 17 tpc_sync, 18 tpc_rst, 19 tof */
 
 /* What a scan is asked for. Of several filters the first of link, FEE id and stave decides; without any, all headers match. A stave is a
    FEE id, of which layer and stave are compared; kesarimbu_set_stave makes it of a name. */
@@ -210,8 +196,8 @@ struct kesarimbu_stave_set {
     uint32_t refusal;
 };
 
-/* What a scan keeps between two calls, beside the lists. `place` is where it reads; `position` is what it reports. `load_start` is the
-   position from which the open load started, if `load_open`, and else 0 whenever a call leaves it. */
+/* What a scan keeps between two calls, beside the lists and the trigger counts. `place` is where it reads; `position` is what it reports.
+   `load_start` is the position from which the open load started, if `load_open`, and else 0 whenever a call leaves it. */
 struct kesarimbu_state {
     uint64_t place;
     uint64_t position;
@@ -300,36 +286,34 @@ struct kesarimbu_stave_set kesarimbu_set_stave(struct kesarimbu_settings setting
 struct kesarimbu_checked kesarimbu_check(struct kesarimbu_validator validator, struct kesarimbu_header header, uint8_t *text,
                                          size_t length);
 
-/* The counts with `length` trigger words more. */
-struct kesarimbu_trigger_counts kesarimbu_count_triggers(struct kesarimbu_trigger_counts counts, const uint32_t *words, size_t length);
+/* The list of the trigger counts: 480 bytes are always enough. */
+struct kesarimbu_text kesarimbu_trigger_list(const uint32_t *triggers, uint8_t *out, size_t length);
 
-/* The list of the counts: 480 bytes are always enough. */
-struct kesarimbu_text kesarimbu_trigger_list(struct kesarimbu_trigger_counts counts, uint8_t *out, size_t length);
-
-/* A line for each count that differs from that of `expected`, in the order of the struct's fields: 1,058 bytes are always enough. */
-struct kesarimbu_text kesarimbu_trigger_compare(struct kesarimbu_trigger_counts counts, struct kesarimbu_trigger_counts expected,
-                                                uint8_t *out, size_t length);
+/* A line for each count that differs from that of `expected`, in the order of the places: 1,058 bytes are always enough. */
+struct kesarimbu_text kesarimbu_trigger_compare(const uint32_t *triggers, const uint32_t *expected, uint8_t *out, size_t length);
 
 /* Examines the header at the state's byte place. `window` holds `length` bytes of the recording from byte place `first` on, and the
    recording ends with it if it is the `last`. `links` are KESARIMBU_LINKS bytes and `fee_ids` are `places` numbers: lists in the order of
-   first sight, of which the state says how many are used. `header` are KESARIMBU_HEADER_SIZE bytes: those of a packet's header if one is
-   handed out; else they stay as they were. */
+   first sight, of which the state says how many are used. `triggers` are KESARIMBU_TRIGGERS numbers, whatever they are: with statistics each
+   header that is seen is counted there, whether it matches the filter or not. A want and refusals 1 and 6 leave them as they were. `header`
+   are KESARIMBU_HEADER_SIZE bytes: those of a packet's header if one is handed out; else they stay as they were. */
 struct kesarimbu_reply kesarimbu_examine(struct kesarimbu_settings settings, struct kesarimbu_state state, uint8_t *links,
-                                         uint16_t *fee_ids, size_t places, const uint8_t *window, size_t length, uint64_t first,
-                                         bool last, uint8_t *header);
+                                         uint32_t *triggers, uint16_t *fee_ids, size_t places, const uint8_t *window, size_t length,
+                                         uint64_t first, bool last, uint8_t *header);
 
 /* Loads the next packet: examines headers up to the first that is not passed. It is never answered with KESARIMBU_PASSED. */
 struct kesarimbu_reply kesarimbu_load(struct kesarimbu_settings settings, struct kesarimbu_state state, uint8_t *links,
-                                      uint16_t *fee_ids, size_t places, const uint8_t *window, size_t length, uint64_t first, bool last,
-                                      uint8_t *header);
+                                      uint32_t *triggers, uint16_t *fee_ids, size_t places, const uint8_t *window, size_t length,
+                                      uint64_t first, bool last, uint8_t *header);
 
 /* Lists packets: loads one after the other, and writes each packet's row, and its verdict if it is not sound, a line each with the packet's
    own position, at the start of `out`, until a load finds no packet, or `out` might not hold the next lines. A refusal 1 to 4 or 6 adds the
-   last lines, with the counts. Marks are not told. Call it again with what came back, and with a buffer to fill anew, as long as the kind is
-   KESARIMBU_FULL or KESARIMBU_WANT. */
+   last lines, with the state's counts. Marks and trigger counts are not told. Call it again with what came back, and with a buffer to fill
+   anew, as long as the kind is KESARIMBU_FULL or KESARIMBU_WANT. */
 struct kesarimbu_listed kesarimbu_list(struct kesarimbu_settings settings, struct kesarimbu_state state,
-                                       struct kesarimbu_validator validator, uint8_t *links, uint16_t *fee_ids, size_t places,
-                                       const uint8_t *window, size_t length, uint64_t first, bool last, uint8_t *out, size_t room);
+                                       struct kesarimbu_validator validator, uint8_t *links, uint32_t *triggers, uint16_t *fee_ids,
+                                       size_t places, const uint8_t *window, size_t length, uint64_t first, bool last, uint8_t *out,
+                                       size_t room);
 
 #ifdef __cplusplus
 }

@@ -12,12 +12,12 @@ The friendly layer reads whole recordings:
 and `Listing`, or `python3 -m kesarimbu list recording.raw`, lists one. The exact layer is one to one with the functions of
 include/kesarimbu.h, whose answers are proved for all values of their arguments:
 
-    decode, encode, equal, row                      headers, from and to their 64 bytes, and as a row of text
-    fee, fee_id, same_stave, name                   FEE ids and the names of staves
-    Validator.check                                 whether a header is sound, and what is wrong with it
-    count_triggers, trigger_list, trigger_compare   trigger statistics
-    Settings                                        what a scan is asked for, with a filter by the name of a stave
-    examine, load                                   one header, one packet, in a window of a recording
+    decode, encode, equal, row      headers, from and to their 64 bytes, and as a row of text
+    fee, fee_id, same_stave, name   FEE ids and the names of staves
+    Validator.check                 whether a header is sound, and what is wrong with it
+    Settings                        what a scan is asked for, with a filter by the name of a stave
+    examine, load                   one header, one packet, in a window of a recording
+    trigger_list, trigger_compare   the trigger counts that a scan keeps, as a list and against those expected
 
 A call that is refused raises `Refused`, with the refusal's number and what belongs to it; in the reply of `examine` and `load` it is the
 answer. A number that its field cannot hold is an `OverflowError`. Nobody may write a buffer while a call has it: no promise holds then.
@@ -36,7 +36,7 @@ _HOMES = {
     "refusals": "Refused",
     "scan": "Initial Kept Marks Packet Passed Reply Scan Settings Want examine load",
     "staves": "Fee fee fee_id name same_stave",
-    "triggers": "TriggerCounts count_triggers trigger_compare trigger_list",
+    "triggers": "TriggerCounts trigger_compare trigger_list",
     "verdicts": "Validator Verdict",
 }
 _HOME_OF = {name: home for home, names in _HOMES.items() for name in names.split()}
@@ -51,7 +51,7 @@ if TYPE_CHECKING:
     from .refusals import Refused
     from .scan import Initial, Kept, Marks, Packet, Passed, Reply, Scan, Settings, Want, examine, load
     from .staves import Fee, fee, fee_id, name, same_stave
-    from .triggers import TriggerCounts, count_triggers, trigger_compare, trigger_list
+    from .triggers import TriggerCounts, trigger_compare, trigger_list
     from .verdicts import Validator, Verdict
 
 

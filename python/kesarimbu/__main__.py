@@ -28,7 +28,7 @@ class FileAlone:
     """The options of `list FILE`, with no word more."""
 
     link = fee = stave = version = None
-    its = no_payload = False
+    its = no_payload = triggers = False
 
     def __init__(self, file: str) -> None:
         self.file = file
@@ -68,9 +68,17 @@ def write_listing(listing: Listing, progress: Progress, options: Options) -> int
     for lines in views(listing, options):
         out.write(lines)
         progress.show(listing.place)
+    if options.triggers:
+        out.write(trigger_lines(listing))
     out.flush()
     progress.clear()
     return SOUND if listing.refusal == Refused(END) and listing.unsound == 0 else NOT_SOUND
+
+
+def trigger_lines(listing: Listing) -> bytes:
+    """The list of a listing's trigger counts. What makes it is imported only where it is asked for."""
+    from .triggers import trigger_list
+    return trigger_list(listing.triggers).encode()
 
 
 def views(listing: Listing, options: Options) -> Iterator[memoryview]:

@@ -13,8 +13,8 @@ VARIABLE = "KESARIMBU_LIBRARY"
 
 # What is lent crosses as a pointer and a length, in elements.
 _LENT = (c_void_p, c_size_t)
-# The lists of a scan, and its window with the window's first place and whether it is the last.
-_LISTS = (c_void_p, c_void_p, c_size_t)
+# Links, trigger counts and FEE ids of a scan, and its window with the window's first place and whether it is the last.
+_LISTS = (c_void_p, c_void_p, c_void_p, c_size_t)
 _WINDOW = (c_void_p, c_size_t, c_uint64, c_bool)
 _SCAN = (structs.Settings, structs.State, *_LISTS, *_WINDOW, c_void_p)
 
@@ -31,9 +31,8 @@ SIGNATURES = {
     "kesarimbu_name": (structs.Named, *_LENT),
     "kesarimbu_set_stave": (structs.StaveSet, structs.Settings, *_LENT),
     "kesarimbu_check": (structs.Checked, structs.Validator, structs.Header, *_LENT),
-    "kesarimbu_count_triggers": (structs.TriggerCounts, structs.TriggerCounts, *_LENT),
-    "kesarimbu_trigger_list": (structs.Text, structs.TriggerCounts, *_LENT),
-    "kesarimbu_trigger_compare": (structs.Text, structs.TriggerCounts, structs.TriggerCounts, *_LENT),
+    "kesarimbu_trigger_list": (structs.Text, c_void_p, *_LENT),
+    "kesarimbu_trigger_compare": (structs.Text, c_void_p, c_void_p, *_LENT),
     "kesarimbu_examine": (structs.Reply, *_SCAN),
     "kesarimbu_load": (structs.Reply, *_SCAN),
     "kesarimbu_list": (structs.Listed, structs.Settings, structs.State, structs.Validator, *_LISTS, *_WINDOW, *_LENT),
@@ -78,7 +77,6 @@ same_stave = _declared(_library, "kesarimbu_same_stave")
 name = _declared(_library, "kesarimbu_name")
 set_stave = _declared(_library, "kesarimbu_set_stave")
 check = _declared(_library, "kesarimbu_check")
-count_triggers = _declared(_library, "kesarimbu_count_triggers")
 trigger_list = _declared(_library, "kesarimbu_trigger_list")
 trigger_compare = _declared(_library, "kesarimbu_trigger_compare")
 examine = _declared(_library, "kesarimbu_examine")

@@ -5,7 +5,7 @@ The command line is made of this. So it imports little: that alone would take lo
 from __future__ import annotations
 
 import os
-from ctypes import c_uint8, c_uint16
+from ctypes import c_uint8, c_uint16, c_uint32
 
 from . import lending, library, plain, structs
 from .refusals import BUFFER_TOO_SHORT, Refused, refused_of
@@ -15,6 +15,7 @@ TYPE_CHECKING = False
 if TYPE_CHECKING:
     from typing import Iterator
 
+    from .triggers import TriggerCounts
     from .windows import Source, Windows
 
 # How many bytes are read at a time, and how many bytes of lines are made at a time: few enough for the processor's caches, and so many that
@@ -30,8 +31,8 @@ class Listing:
     prints: own position and row of each packet, a further line with that position and the verdict if it is not sound, and at the end the
     counts and the refusal's number.
 
-    `refusal` is None until the iteration has come to its end. `unsound` is how many of the packets listed so far are not sound, and `place`
-    the byte place that was reached.
+    `refusal` is None until the iteration has come to its end. `unsound` is how many of the packets listed so far are not sound, `place` the
+    byte place that was reached, and `triggers` are the trigger counts of the headers seen so far.
 
     >>> import io
     >>> from kesarimbu import Header
@@ -43,8 +44,8 @@ class Listing:
     filtered 0
     payload 0
     end 1
-    >>> listing.refusal, listing.unsound, listing.place
-    (Refused(1), 0, 64)
+    >>> listing.refusal, listing.unsound, listing.place, listing.triggers.pht
+    (Refused(1), 0, 64, 1)
     """
 
     def __init__(self, source: Source, *, link: int | None = None, fee: int | None = None, stave: str | bytes | int | None = None,
@@ -53,6 +54,7 @@ class Listing:
         self._settings = plain.settings(link, fee, stave, skip_payload, stats)
         self._listed = structs.Listed(validator=plain.validator(version, its, None))
         self._links = (c_uint8 * structs.LINKS)()
+        self._triggers = (c_uint32 * structs.TRIGGERS)()
         self._fee_ids = (c_uint16 * places)()
         self._out = (c_uint8 * room)()
         self._text = memoryview(self._out).cast("B")
@@ -75,6 +77,12 @@ class Listing:
         """The byte place that the listing has come to."""
         return self._listed.state.place
 
+    @property
+    def triggers(self) -> TriggerCounts:
+        """The trigger counts of the headers seen so far. What names them is imported only where they are asked for."""
+        from .triggers import TriggerCounts
+        return TriggerCounts(*self._triggers)
+
     def __iter__(self) -> Iterator[bytes]:
         return map(bytes, self.views())
 
@@ -96,7 +104,7 @@ class Listing:
         """One call, for as many packets as the window has and the buffer holds."""
         before, windows = self._listed, self._windows
         listed = library.list_packets(
-            self._settings, before.state, before.validator, self._links, self._fee_ids, len(self._fee_ids),
+            self._settings, before.state, before.validator, self._links, self._triggers, self._fee_ids, len(self._fee_ids),
             *lending.to_read(windows.window), windows.first, windows.last, self._out, len(self._out))
         if listed.answer.kind == structs.REFUSED:
             self._finish(listed)

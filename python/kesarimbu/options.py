@@ -31,6 +31,9 @@ listing ended:
   end 3   the memory size of a header is below 64
   end 4   there are more than 4,096 FEE ids
   end 6   the recording goes beyond 2^60 bytes
+
+With --triggers a list of trigger counts follows: how many of the headers seen had each bit of a
+trigger. Headers that do not match the filter are counted, too, as they are among the seen.
 """
 
 LIST_EPILOG = """\
@@ -43,6 +46,7 @@ not be done as it was asked for.
 Examples:
   python3 -m kesarimbu list recording.raw
   python3 -m kesarimbu list --stave L5_42 --its recording.raw
+  python3 -m kesarimbu list --triggers recording.raw
   zcat recording.raw.gz | python3 -m kesarimbu list --link 3 -
 """
 
@@ -89,6 +93,7 @@ def parsers() -> tuple[argparse.ArgumentParser, argparse.ArgumentParser]:
                         help="the header ID that all headers must have; without it, all must have that of the first packet listed")
     listed.add_argument("--its", action="store_true", help="the system id must be that of the ITS, 32")
     listed.add_argument("--no-payload", action="store_true", help="skip payload: go from header to header by the offset to the next packet")
+    listed.add_argument("--triggers", action="store_true", help="behind the listing, list the trigger counts of the headers seen")
     return top, listed
 
 

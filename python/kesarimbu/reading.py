@@ -11,6 +11,7 @@ from .scan import NO_MARKS, Kept, Marks, Packet, Scan, Settings, Want
 from .windows import Windows
 
 if TYPE_CHECKING:
+    from .triggers import TriggerCounts
     from .windows import Source
 
 # How many bytes are read at a time.
@@ -19,13 +20,14 @@ WINDOW = 1 << 20
 
 @dataclass(frozen=True)
 class End:
-    """How a scan ended: the refusal (1 at the recording's end), the counts of headers and payload bytes, the links and FEE ids in the order
-    of first sight, and the marks of all loads together."""
+    """How a scan ended: the refusal (1 at the recording's end), the counts of headers and payload bytes, the trigger counts of the headers
+    seen, the links and FEE ids in the order of first sight, and the marks of all loads together."""
 
     refusal: Refused
     seen: int
     filtered: int
     payload: int
+    triggers: TriggerCounts
     links: tuple[int, ...]
     fee_ids: tuple[int, ...]
     marks: Marks
@@ -34,7 +36,7 @@ class End:
 def end_of(refusal: Refused, kept: Kept, marks: Marks) -> End:
     """The end of a scan that was refused, and has kept this."""
     links, fee_ids = tuple(kept.links[:kept.links_used]), tuple(kept.fee_ids[:kept.fee_ids_used])
-    return End(refusal, kept.seen, kept.filtered, kept.payload, links, fee_ids, marks)
+    return End(refusal, kept.seen, kept.filtered, kept.payload, kept.triggers, links, fee_ids, marks)
 
 
 class Packets:
@@ -100,14 +102,19 @@ def packets(source: Source, *, link: int | None = None, fee: int | None = None, 
 
     >>> import io
     >>> from kesarimbu import Header
-    >>> first = bytes(Header(fee_id=0x502A, link_id=2, offset_new_packet=68, memory_size=68)) + b"data"
-    >>> other = bytes(Header(fee_id=0x0006, link_id=3, offset_new_packet=64, memory_size=64))
+    >>> first = bytes(Header(fee_id=0x502A, link_id=2, offset_new_packet=68, memory_size=68, trigger_type=0x10)) + b"data"
+    >>> other = bytes(Header(fee_id=0x0006, link_id=3, offset_new_packet=64, memory_size=64, trigger_type=0x11))
     >>> found = packets(io.BytesIO(other + first), stave="L5_42")
     >>> for packet in found:
     ...     print(hex(packet.header.fee_id), bytes(packet.payload), packet.own, packet.position)
     0x502a b'data' 64 0
     >>> found.end.refusal, found.end.seen, found.end.filtered, found.end.links
     (Refused(1), 2, 1, (3, 2))
+
+    All headers seen are in the trigger counts, those too that the filter does not take:
+
+    >>> found.end.triggers.orbit, found.end.triggers.pht
+    (1, 2)
 
     Windows are read, not mapped: a mapped file that somebody cuts meanwhile kills the process, and bytes that change under a proved
     function break its promise. A file that was opened here is closed at the end of the iteration; where that may not be reached:

@@ -1,18 +1,19 @@
 """The scan of a recording: one header examined, or one packet loaded, in a window of the recording that is lent.
 
 `examine` and `load` are one to one with the exported functions and change nothing that they are given. `Scan` is the same for many calls:
-it keeps state and lists in buffers that are made once.
+it keeps state, lists and trigger counts in buffers that are made once.
 """
 from __future__ import annotations
 
 from array import array
-from ctypes import c_uint8, c_uint16, c_uint64
+from ctypes import c_uint8, c_uint16, c_uint32, c_uint64
 from dataclasses import dataclass, field
 from typing import TYPE_CHECKING, Any, NamedTuple, Sequence, Union
 
 from . import lending, library, plain, structs
 from .headers import Header, decode_lent
 from .refusals import Refused, refused_of
+from .triggers import TriggerCounts, counts_of
 
 if TYPE_CHECKING:
     from .lending import Readable
@@ -70,11 +71,14 @@ class Kept:
 
     `place` is the byte place where it reads, `position` what it reports, and `load` the position from which the open load started, or None.
     `links` and `fee_ids` are lists in the order of first sight, of which `links_used` and `fee_ids_used` say how many are used. Links are
-    filled up to 256 with 0. The FEE list has as many places as `fee_ids` has numbers.
+    filled up to 256 with 0. The FEE list has as many places as `fee_ids` has numbers. `triggers` are the trigger counts of the headers seen,
+    `TriggerCounts` or any numbers in their order, which are filled up to 20 with 0.
 
-    >>> kept = Kept(links=[1, 2], links_used=2, fee_ids=[0x502A, 0, 0], fee_ids_used=1)
+    >>> kept = Kept(links=[1, 2], links_used=2, triggers=[9, 4], fee_ids=[0x502A, 0, 0], fee_ids_used=1)
     >>> len(kept.links), kept.fee_ids
     (256, array('H', [20522, 0, 0]))
+    >>> kept.triggers.orbit, kept.triggers.hb, len(kept.triggers)
+    (9, 4, 20)
     """
 
     place: int = 0
@@ -85,11 +89,13 @@ class Kept:
     payload: int = 0
     links: bytes | Sequence[int] = bytes(structs.LINKS)
     links_used: int = 0
+    triggers: Sequence[int] = TriggerCounts()
     fee_ids: Sequence[int] = field(default_factory=_no_fee_ids)
     fee_ids_used: int = 0
 
     def __post_init__(self) -> None:
         object.__setattr__(self, "links", _links_of(self.links))
+        object.__setattr__(self, "triggers", counts_of(self.triggers))
         object.__setattr__(self, "fee_ids", _fee_ids_of(self.fee_ids))
 
 
@@ -185,6 +191,7 @@ class Scan:
         self._settings = plain.settings(settings.link, settings.fee, settings.stave, settings.skip_payload, settings.stats)
         self._reply = structs.Reply(state=plain_state(kept))
         self._links = (c_uint8 * structs.LINKS).from_buffer_copy(kept.links)
+        self._triggers = (c_uint32 * structs.TRIGGERS)(*kept.triggers)
         self._fee_ids = (c_uint16 * len(kept.fee_ids)).from_buffer_copy(kept.fee_ids)
         self._header = (c_uint8 * structs.HEADER_SIZE)()
         self.lend(b"", 0, False)
@@ -193,8 +200,8 @@ class Scan:
         """Lends the window for the next calls: bytes of the recording from the byte place `first` on, with which it ends if `last`."""
         self._view = _view_of(window)
         lent, length = lending.to_read(window)
-        self._lent = (self._links, self._fee_ids, len(self._fee_ids), lent, length, structs.fitting("first", first, c_uint64),
-                      bool(last), self._header)
+        self._lent = (self._links, self._triggers, self._fee_ids, len(self._fee_ids), lent, length,
+                      structs.fitting("first", first, c_uint64), bool(last), self._header)
 
     def examine(self) -> Answer:
         """Examines the header at the place that is kept."""
@@ -226,7 +233,7 @@ class Scan:
     @property
     def kept(self) -> Kept:
         """What is kept now."""
-        return kept_of(self._reply.state, self._links, self._fee_ids)
+        return kept_of(self._reply.state, self._links, self._triggers, self._fee_ids)
 
 
 def examine(settings: Settings, kept: Kept, window: Readable, first: int, last: bool) -> Reply:
@@ -234,10 +241,15 @@ def examine(settings: Settings, kept: Kept, window: Readable, first: int, last: 
     the recording ends if `last`.
 
     >>> from kesarimbu import Header
-    >>> header = bytes(Header(link_id=3, offset_new_packet=64, memory_size=64))
+    >>> header = bytes(Header(link_id=3, offset_new_packet=64, memory_size=64, trigger_type=0x4813))
     >>> reply = examine(Settings(link=2), Kept(), header, 0, True)
     >>> reply.answer, reply.kept.place, reply.kept.seen
     (Passed(), 64, 1)
+
+    With statistics, a header that is seen is counted at once in the trigger counts, too:
+
+    >>> reply.kept.triggers.pht, reply.kept.triggers.tof
+    (1, 0)
     """
     scan = Scan(settings, kept)
     scan.lend(window, first, last)
@@ -270,17 +282,18 @@ def load(settings: Settings, kept: Kept, window: Readable, first: int, last: boo
 
 
 def plain_state(kept: Kept) -> structs.State:
-    """What is kept, but for the lists, as a struct."""
+    """What is kept, but for the lists and the trigger counts, as a struct."""
     is_open = kept.load is not None
     return structs.filled(structs.State, (kept.place, kept.position, kept.load if is_open else 0, kept.links_used, kept.fee_ids_used,
                                           kept.seen, kept.filtered, kept.payload, is_open))
 
 
-def kept_of(state: structs.State, links: Any, fee_ids: Any) -> Kept:
-    """What is kept: a struct and the two lists together."""
+def kept_of(state: structs.State, links: Any, triggers: Any, fee_ids: Any) -> Kept:
+    """What is kept: a struct, the two lists and the trigger counts together."""
     place, position, start, links_used, fee_ids_used, seen, filtered, payload, is_open = structs.values(state)
     listed = array("H", bytes(fee_ids))
-    return Kept(place, position, start if is_open else None, seen, filtered, payload, bytes(links), links_used, listed, fee_ids_used)
+    return Kept(place, position, start if is_open else None, seen, filtered, payload, bytes(links), links_used, triggers, listed,
+                fee_ids_used)
 
 
 def _marks_of(seen: int, trigger_type: int, data_format: int, system_id: int, initial: bool, filtered: bool, payload: bool,

@@ -14,6 +14,7 @@ if TYPE_CHECKING:
 
 HEADER_SIZE = 64
 LINKS = 256
+TRIGGERS = 20
 LEAST_ROOM = 1024
 
 PASSED, PACKET, WANT, REFUSED, FULL = range(5)
@@ -80,31 +81,6 @@ class Validator(Structure):
 
 class Checked(Structure):
     _fields_ = [("length", c_size_t), ("refusal", c_uint32), ("sound", c_bool), ("validator", Validator)]
-
-
-class TriggerCounts(Structure):
-    _fields_ = [
-        ("orbit", c_uint32),
-        ("hb", c_uint32),
-        ("hbr", c_uint32),
-        ("hc", c_uint32),
-        ("pht", c_uint32),
-        ("pp", c_uint32),
-        ("cal", c_uint32),
-        ("sot", c_uint32),
-        ("eot", c_uint32),
-        ("soc", c_uint32),
-        ("eoc", c_uint32),
-        ("tf", c_uint32),
-        ("fe_rst", c_uint32),
-        ("rt", c_uint32),
-        ("rs", c_uint32),
-        ("lhc_gap1", c_uint32),
-        ("lhc_gap2", c_uint32),
-        ("tpc_sync", c_uint32),
-        ("tpc_rst", c_uint32),
-        ("tof", c_uint32),
-    ]
 
 
 class Settings(Structure):
@@ -190,7 +166,7 @@ def _layout(kind: type[Structure]) -> struct.Struct:
 # The layouts of the structs that hold numbers alone.
 LAYOUTS = {
     kind: _layout(kind)
-    for kind in (Header, HeaderParts, FeeParts, Validator, TriggerCounts, Settings, State, Answer, Marks)
+    for kind in (Header, HeaderParts, FeeParts, Validator, Settings, State, Answer, Marks)
 }
 
 

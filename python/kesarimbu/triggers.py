@@ -1,13 +1,16 @@
-"""Trigger statistics: how many trigger words had each bit."""
+"""Trigger counts: how many of the headers that a scan has seen had each bit of a trigger, as a list and against those expected."""
 from __future__ import annotations
 
 from array import array
-from dataclasses import dataclass
-from typing import TYPE_CHECKING, Iterable
+from ctypes import c_uint32
+from typing import TYPE_CHECKING, NamedTuple
 
 from . import lending, library, structs
 
 if TYPE_CHECKING:
+    from ctypes import Array
+    from typing import Iterable
+
     from .lending import Writable
 
 # So many bytes hold every list, and every comparison.
@@ -15,9 +18,14 @@ LIST_ROOM = 480
 COMPARISON_ROOM = 1058
 
 
-@dataclass(frozen=True)
-class TriggerCounts:
-    """How many trigger words had each bit, modulo 2^32: bits 0 to 14, then 27 to 31."""
+class TriggerCounts(NamedTuple):
+    """How many of the headers seen had each bit of a trigger in their trigger word, modulo 2^32: bits 0 to 14, then 27 to 31. Scans count them
+    with all else that they count.
+
+    >>> counts = TriggerCounts(orbit=3, tof=1)
+    >>> counts.orbit, counts[0], counts[-1], len(counts)
+    (3, 3, 1, 20)
+    """
 
     orbit: int = 0
     hb: int = 0
@@ -41,25 +49,34 @@ class TriggerCounts:
     tof: int = 0
 
 
-def _plain(counts: TriggerCounts) -> structs.TriggerCounts:
-    return structs.filled(structs.TriggerCounts, counts.__dict__.values())
+def counts_of(given: Iterable[int]) -> TriggerCounts:
+    """The counts in the order of the fields, and 0 behind them. Each must fit 32 bits.
 
-
-def count_triggers(counts: TriggerCounts, words: Iterable[int]) -> TriggerCounts:
-    """The counts with these trigger words more.
-
-    >>> counts = count_triggers(TriggerCounts(), [0x4813, 0x4003])
-    >>> counts.orbit, counts.hb, counts.pht, counts.tf, counts.rs
-    (2, 2, 1, 1, 2)
+    >>> counts_of([9, 4]).hb
+    4
+    >>> counts_of([9, -1])
+    Traceback (most recent call last):
+    ...
+    OverflowError: hb is -1, and must be from 0 to 4294967295
     """
-    given = words if isinstance(words, array) and words.typecode == "I" else array("I", list(words))
-    lent, _ = lending.to_write(given)  # only read: so a whole array crosses without a copy
-    counted = library.count_triggers(_plain(counts), lent, len(given))
-    return TriggerCounts(*structs.values(counted))
+    counts = tuple(given)
+    if len(counts) > structs.TRIGGERS:
+        raise ValueError(f"{len(counts)} trigger counts are given, and {structs.TRIGGERS} are the most that can be kept")
+    try:
+        return TriggerCounts(*array("I", counts))
+    except (OverflowError, TypeError):
+        for name, number in zip(TriggerCounts._fields, counts):
+            structs.fitting(name, number, c_uint32)
+        raise
 
 
-def trigger_list(counts: TriggerCounts, out: Writable | None = None) -> str:
-    """The list of the counts. With `out` it is also written at its start; refusal 7 if `out` is too short.
+def _lent(counts: Iterable[int]) -> Array:
+    return (c_uint32 * structs.TRIGGERS)(*counts_of(counts))
+
+
+def trigger_list(counts: Iterable[int], out: Writable | None = None) -> str:
+    """The list of the counts: `TriggerCounts`, or any numbers in their order. With `out` it is also written at its start; refusal 7 if `out`
+    is too short.
 
     >>> print(trigger_list(TriggerCounts(orbit=3, tof=1)))  # doctest: +ELLIPSIS
     Trigger statistics:
@@ -69,19 +86,19 @@ def trigger_list(counts: TriggerCounts, out: Writable | None = None) -> str:
       TOF:           1
     <BLANKLINE>
     """
-    plain = _plain(counts)
-    return lending.text_of(lambda lent, length: library.trigger_list(plain, lent, length), out, LIST_ROOM)
+    triggers = _lent(counts)
+    return lending.text_of(lambda lent, length: library.trigger_list(triggers, lent, length), out, LIST_ROOM)
 
 
-def trigger_compare(counts: TriggerCounts, expected: TriggerCounts, out: Writable | None = None) -> str:
+def trigger_compare(counts: Iterable[int], expected: Iterable[int], out: Writable | None = None) -> str:
     """A line for each count that differs from the expected one, in the order of the fields; empty if none does. With `out` it is also
     written at its start; refusal 7 if `out` is too short.
 
     >>> print(trigger_compare(TriggerCounts(tof=1, hb=3, orbit=2), TriggerCounts(hb=3)), end="")
     orbit mismatch! expected: 0, got: 2
     tof mismatch! expected: 0, got: 1
-    >>> trigger_compare(TriggerCounts(hb=3), TriggerCounts(hb=3))
+    >>> trigger_compare(TriggerCounts(hb=3), [0, 3])
     ''
     """
-    plain, other = _plain(counts), _plain(expected)
-    return lending.text_of(lambda lent, length: library.trigger_compare(plain, other, lent, length), out, COMPARISON_ROOM)
+    triggers, other = _lent(counts), _lent(expected)
+    return lending.text_of(lambda lent, length: library.trigger_compare(triggers, other, lent, length), out, COMPARISON_ROOM)

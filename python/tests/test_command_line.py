@@ -1,17 +1,21 @@
 """The command line: what it prints, its exit status, and that it prints what the listing program prints."""
 import contextlib
 import io
+import itertools
 import os
 import pty
 import subprocess
 import sys
 import unittest
+from pathlib import Path
 
 from kesarimbu import decode, row
 from kesarimbu.__main__ import main, options_of
 from kesarimbu.options import understood
-from .differential import ROOT
+from .differential import DATA, ROOT
 from .sources import file_with
+from .test_trigger_counts import BITS, seen_words
+from .test_triggers import NAMES
 from make_recordings import every, header
 
 SAMPLE = ROOT / "samples/staves.raw"
@@ -49,6 +53,12 @@ def chain_of(recording):
     while 64 <= decode(recording[place:]).offset_new_packet <= 10_064:
         yield place, decode(recording[place:])
         place += decode(recording[place:]).offset_new_packet
+
+
+def trigger_list(words):
+    """The list of the counts of these trigger words."""
+    lines = [f"  {name + ':':<9} {sum(word >> bit & 1 for word in words):>6}\n" for name, bit in zip(NAMES, BITS)]
+    return ("Trigger statistics:\n" + "".join(lines)).encode()
 
 
 def run_here(*words):
@@ -144,6 +154,47 @@ class Lists(unittest.TestCase):
         self.assertEqual(run("list", "--no-payload", "-", input=recording).stdout, self.listed(recording, "--no-payload")[1])
 
 
+class Triggers(unittest.TestCase):
+    """`--triggers` puts a list behind the listing and changes nothing else: the trigger counts of all headers seen."""
+
+    def hold(self, path, *words, takes=lambda found: True):
+        """The list is that of a walk over the recording's bytes. Answers how many headers it sees."""
+        recording = path.read_bytes()
+        seen = seen_words(recording, lambda found: takes(decode(found)), "--no-payload" in words)
+        status, listed, errors = run_here("list", *words, path)
+        self.assertEqual(run_here("list", "--triggers", *words, path), (status, listed + trigger_list(seen), errors))
+        self.assertIn(b"\nseen %d\n" % len(seen), b"\n" + listed)
+        return len(seen)
+
+    def test_the_samples(self):
+        """A filter does not matter, but for the last header: its offset is bad, so that it is not counted where the one before it was passed."""
+        for path in (ROOT / "samples").glob("*.raw"):
+            for words, takes in FILTERS:
+                with self.subTest(path.name, words=words):
+                    self.assertGreater(self.hold(path, *words, takes=takes), 40)
+
+    def test_recordings_of_every_kind(self):
+        for (name, recording), (words, takes) in zip(every(10), itertools.cycle(FILTERS)):
+            with self.subTest(name, words=words), file_with(recording) as path:
+                self.hold(Path(path), *words, takes=takes)
+
+    def test_the_example(self):
+        with file_with(TWO) as path:
+            self.assertEqual(run_here("list", "--triggers", path)[:2], (0, TWO_LISTED + trigger_list([0x4813, 0x4813])))
+            self.assertEqual(run_here("list", path)[:2], (0, TWO_LISTED))
+
+    def test_a_program_of_its_own(self):
+        for recording, status in ((TWO, 0), (TWO + header(trigger=0xF8000000, offset=63), 1), (HIGH_BC, 1), (b"", 0)):
+            done, listed = (run("list", *words, "-", input=recording) for words in (["--triggers"], []))
+            self.assertEqual((done.returncode, listed.returncode, done.stderr), (status, status, b""))
+            self.assertEqual(done.stdout, listed.stdout + trigger_list(seen_words(recording)))
+
+    def test_without_it_the_sample_is_listed_as_ever(self):
+        listed = (DATA / "rust_listing.txt").read_bytes()
+        self.assertEqual(run_here("list", SAMPLE)[1], listed)
+        self.assertEqual(run("list", SAMPLE).stdout, listed)
+
+
 class LikeTheListingProgram(unittest.TestCase):
     def setUp(self):
         self.assertTrue(LISTING_PROGRAM.exists(), f"{LISTING_PROGRAM} is not there: `rt check listing` builds it")
@@ -175,7 +226,8 @@ class Misuse(unittest.TestCase):
     def test_words_that_are_not_understood(self):
         for words, said in [
                 ([], "COMMAND"), (["show"], "invalid choice: 'show'"), (["list"], "FILE"), (["list", "a", "b"], "b"),
-                (["list", "--links", "3", SAMPLE], "--links"), (["list", "--its=1", SAMPLE], "--its"), (["list", "--i", SAMPLE], "--i"),
+                (["list", "--links", "3", SAMPLE], "--links"), (["list", "--its=1", SAMPLE], "--its"),
+                (["list", "--triggers=1", SAMPLE], "--triggers"), (["list", "--trigger", SAMPLE], "--trigger"), (["list", "--i", SAMPLE], "--i"),
                 (["list", "--link", "256", SAMPLE], "256 is above 255"), (["list", "--fee", "0x10000", SAMPLE], "0x10000 is above 65535"),
                 (["list", "--link", "-1", SAMPLE], "--link"), (["list", "--link", "3x", SAMPLE], "'3x' is not a number"),
                 (["list", "--link", "1_0", SAMPLE], "not a number"), (["list", "--link", "", SAMPLE], "not a number"),
@@ -193,6 +245,7 @@ class Misuse(unittest.TestCase):
     def test_a_file_that_cannot_be_read(self):
         self.hold(["list", ROOT / "no such file"], "No such file or directory")
         self.hold(["list", ROOT], "Is a directory")
+        self.hold(["list", "--triggers", ROOT], "Is a directory")
 
     def test_the_exit_status_of_the_program(self):
         done = run("list", "--stave", "L5", SAMPLE)
@@ -215,12 +268,25 @@ class Options(unittest.TestCase):
 
     def test_other_words_are_left_to_the_parser(self):
         self.assertTrue(options_of(["list", "--its", "recording.raw"]).its)
+        self.assertEqual([options_of(["list", *words, "a"]).triggers for words in ([], ["--its"], ["--triggers"])], [False, False, True])
         self.assertEqual(options_of(["list", "--", "-recording.raw"]).file, "-recording.raw")
 
 
 class Surroundings(unittest.TestCase):
+    def test_what_is_imported(self):
+        """A listing alone takes no longer to start for what else there is."""
+        program = ("import sys; from kesarimbu.__main__ import main; main(sys.argv[1:]); "
+                   "print(*sorted(name for name in sys.modules if name.startswith('kesarimbu.')))")
+        environment = {**os.environ, "PYTHONPATH": str(ROOT / "python")}
+        told = []
+        for words in ([], ["--its"], ["--triggers"]):
+            done = subprocess.run([sys.executable, "-c", program, "list", *words, SAMPLE], env=environment, stdout=subprocess.PIPE, check=True)
+            told.append({name.partition(".")[2] for name in done.stdout.decode().splitlines()[-1].split()})
+        alone = {"__main__", "lending", "library", "listing", "plain", "progress", "refusals", "structs", "windows"}
+        self.assertEqual(told, [alone, alone | {"options"}, alone | {"options", "triggers"}])
+
     def test_help(self):
-        for words, said in [(["--help"], b"list"), (["list", "--help"], b"--no-payload")]:
+        for words, said in [(["--help"], b"list"), (["list", "--help"], b"--no-payload"), (["list", "--help"], b"--triggers")]:
             done = run(*words)
             self.assertEqual((done.returncode, done.stderr), (0, b""))
             self.assertIn(said, done.stdout)

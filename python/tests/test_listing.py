@@ -7,7 +7,7 @@ import itertools
 import time
 import unittest
 
-from kesarimbu import Listing, Refused, Validator, packets, row
+from kesarimbu import Listing, Refused, TriggerCounts, Validator, packets, row
 from kesarimbu.ahead import SLACK, ReadAhead
 from .sources import Pieces, file_with
 from make_recordings import every, header
@@ -17,7 +17,7 @@ UNSOUND = header(bc_reserved=0xDEC)
 
 
 def composed(recording, version=None, its=False, **settings):
-    """The listing, put together from packets, rows and verdicts; and how many of them are not sound."""
+    """The listing, put together from packets, rows and verdicts; how many of them are not sound; and the trigger counts."""
     validator, lines, unsound = Validator(version, its), [], 0
     found = packets(io.BytesIO(recording), **settings)
     for packet in found:
@@ -28,7 +28,7 @@ def composed(recording, version=None, its=False, **settings):
             unsound += 1
     end = found.end
     lines += [f"seen {end.seen}", f"filtered {end.filtered}", f"payload {end.payload}", f"end {end.refusal.number}"]
-    return "".join(line + "\n" for line in lines).encode(), end.refusal, unsound
+    return "".join(line + "\n" for line in lines).encode(), end.refusal, unsound, end.triggers
 
 
 def threads_left():
@@ -41,7 +41,7 @@ def threads_left():
 
 def listed(source, **settings):
     with Listing(source, **settings) as listing:
-        return b"".join(listing), listing.refusal, listing.unsound
+        return b"".join(listing), listing.refusal, listing.unsound, listing.triggers
 
 
 class Listings(unittest.TestCase):
@@ -63,6 +63,13 @@ class Listings(unittest.TestCase):
         with Listing(io.BytesIO(recording), room=1024, window=64) as listing:
             list(listing)
         self.assertEqual((listing.refusal, listing.unsound, listing.place), (Refused(1), 50, len(recording)))
+
+    def test_the_trigger_counts_so_far(self):
+        listing = Listing(io.BytesIO(b"".join(header(trigger=word) for word in (1, 2, 3, 0x80000000))), window=64, room=1024)
+        self.assertEqual(listing.triggers, TriggerCounts())
+        told = [listing.triggers for _ in listing]
+        self.assertEqual(told[:4], [TriggerCounts(1), TriggerCounts(1, 1), TriggerCounts(2, 2), TriggerCounts(2, 2, tof=1)])
+        self.assertEqual((told[-1], listing.triggers), (told[3], told[3]))
 
     def test_lines_do_not_wait_for_more_bytes(self):
         class Waiting(Pieces):

@@ -22,12 +22,12 @@ def some_lines():
 
 def of_module(kept):
     return (kept.place, kept.position, kept.load, kept.seen, kept.filtered, kept.payload, list(kept.links), kept.links_used,
-            list(kept.fee_ids), kept.fee_ids_used)
+            list(kept.triggers), list(kept.fee_ids), kept.fee_ids_used)
 
 
 def of_model(state):
-    return (state.place, state.position, state.load, state.seen, state.filtered, state.payload, state.links, state.links_used, state.fees,
-            state.fees_used)
+    return (state.place, state.position, state.load, state.seen, state.filtered, state.payload, state.links, state.links_used,
+            state.triggers, state.fees, state.fees_used)
 
 
 class Stored(unittest.TestCase):

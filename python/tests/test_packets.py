@@ -5,15 +5,17 @@ import os
 import unittest
 
 import kesarimbu
-from kesarimbu import End, Initial, Kept, Marks, Packet, Passed, Refused, Settings, packets
+from kesarimbu import End, Initial, Kept, Marks, Packet, Passed, Refused, Settings, TriggerCounts, packets
 from .differential import ROOT
 from .sources import Noting, Pieces, file_with, pipe_with
 from make_recordings import every, header
 
 FIRST = header(fee_id=0x502A, link=2, offset=68, memory=68) + b"data"
-SECOND = header(fee_id=0x0006, link=3, offset=64, memory=64, orbit=9)
+SECOND = header(fee_id=0x0006, link=3, offset=64, memory=64, orbit=9, trigger=0x80000003)
 THIRD = header(fee_id=0x522A, link=4, offset=67, memory=67) + b"end"
 RECORDING = FIRST + SECOND + THIRD
+TRIGGERS = TriggerCounts(orbit=3, hb=3, pht=2, tf=2, rs=2, tof=1)  # of all three
+NO_TRIGGERS = TriggerCounts()
 INITIAL = Initial(trigger_type=0x4813, data_format=2, system_id=32)
 
 
@@ -44,12 +46,12 @@ class ByHand(unittest.TestCase):
         found, end = read(io.BytesIO(RECORDING))
         self.assertEqual(told(found), [(0, 0, 2, b"data"), (68, 68, 3, b""), (132, 132, 4, b"end")])
         self.assertEqual([packet.header.orbit for packet in found], [0, 9, 0])
-        self.assertEqual(end, End(Refused(1), 3, 0, 7, (2, 3, 4), (0x502A, 0x0006, 0x522A), Marks(INITIAL)))
+        self.assertEqual(end, End(Refused(1), 3, 0, 7, TRIGGERS, (2, 3, 4), (0x502A, 0x0006, 0x522A), Marks(INITIAL)))
 
     def test_nothing_and_next_to_nothing(self):
         for length in (0, 1, 63):
             found, end = read(io.BytesIO(FIRST[:length]))
-            self.assertEqual((found, end), ([], End(Refused(1), 0, 0, 0, (), (), Marks())))
+            self.assertEqual((found, end), ([], End(Refused(1), 0, 0, 0, NO_TRIGGERS, (), (), Marks())))
 
     def test_a_payload_that_is_cut_is_empty_and_marked(self):
         found, end = read(io.BytesIO(FIRST[:-1]))
@@ -63,6 +65,7 @@ class ByHand(unittest.TestCase):
     def test_a_link(self):
         found, end = read(io.BytesIO(RECORDING), link=3)
         self.assertEqual((told(found), end.seen, end.filtered), ([(0, 68, 3, b"")], 3, 1))
+        self.assertEqual(end.triggers, TRIGGERS)
 
     def test_a_fee_id(self):
         found, _ = read(io.BytesIO(RECORDING), fee=0x522A)
@@ -75,7 +78,7 @@ class ByHand(unittest.TestCase):
 
     def test_without_statistics(self):
         found, end = read(io.BytesIO(RECORDING), stats=False)
-        self.assertEqual((len(found), end), (3, End(Refused(1), 0, 0, 0, (), (), Marks())))
+        self.assertEqual((len(found), end), (3, End(Refused(1), 0, 0, 0, NO_TRIGGERS, (), (), Marks())))
 
     def test_a_header_that_cannot_be_followed(self):
         found, end = read(io.BytesIO(SECOND + header(offset=63) + SECOND))
@@ -93,6 +96,7 @@ class ByHand(unittest.TestCase):
         found, end = read(ROOT / "samples/staves.raw")
         self.assertEqual((len(found), end.refusal), (54, Refused(2, (-64, 15280))))
         self.assertEqual((end.seen, end.links, len(end.fee_ids)), (55, tuple(range(9)), 10))
+        self.assertEqual(end.triggers, TriggerCounts(orbit=55, hb=55, pht=55, tf=55, rs=55))
 
 
 class Misuse(unittest.TestCase):
@@ -224,7 +228,7 @@ class LikeTheExactLayer(unittest.TestCase):
         self.assertEqual(found, expected)
         self.assertEqual(end.refusal, last.answer)
         kept = last.kept
-        self.assertEqual((end.seen, end.filtered, end.payload), (kept.seen, kept.filtered, kept.payload))
+        self.assertEqual((end.seen, end.filtered, end.payload, end.triggers), (kept.seen, kept.filtered, kept.payload, kept.triggers))
         self.assertEqual((end.links, end.fee_ids), (tuple(kept.links[:kept.links_used]), tuple(kept.fee_ids[:kept.fee_ids_used])))
 
     def test_in_memory(self):

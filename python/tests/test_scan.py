@@ -7,7 +7,7 @@ from array import array
 from dataclasses import replace
 
 import kesarimbu
-from kesarimbu import Header, Initial, Kept, Marks, Packet, Passed, Refused, Scan, Settings, Want
+from kesarimbu import Header, Initial, Kept, Marks, Packet, Passed, Refused, Scan, Settings, TriggerCounts, Want
 
 LIMIT = 1 << 60
 FULL = 0xFFFFFFFE  # the largest count that a scan goes on from
@@ -30,7 +30,8 @@ def links(*listed):
 
 
 INITIAL = Marks(initial=Initial(0x4813, 2, 32))
-COUNTED = Kept(links=links(2), links_used=1, fee_ids=ONE_FEE, fee_ids_used=1, seen=1)
+WORD_4813 = TriggerCounts(orbit=1, hb=1, pht=1, tf=1, rs=1)
+COUNTED = Kept(links=links(2), links_used=1, triggers=WORD_4813, fee_ids=ONE_FEE, fee_ids_used=1, seen=1)
 BEGIN = Kept(fee_ids=FOUR)
 
 
@@ -90,6 +91,7 @@ class Replies(unittest.TestCase):
         recording = one(link=1, fee_id=7) + one(link=1, fee_id=7, number=1) + one(number=2)
         self.check(kesarimbu.load, Settings(link=2), BEGIN, recording, 0, False, Packet(header(number=2), memoryview(b"payload!"), 0, 144),
                    INITIAL, Kept(place=216, position=216, seen=3, filtered=1, payload=8, links=links(1, 2), links_used=2,
+                                 triggers=TriggerCounts(orbit=2, hb=1, hbr=2, pht=3, tf=3, rs=3),
                                  fee_ids=array("H", [7, 0x502A, 0xEEEE, 0xEEEE]), fee_ids_used=2))
 
     def test_want(self):
@@ -130,7 +132,8 @@ class Replies(unittest.TestCase):
 
     def test_refusal_4(self):
         full = Kept(fee_ids=[7], fee_ids_used=1)
-        self.both(Settings(), full, one(), 0, True, Refused(4), INITIAL, replace(full, place=64, seen=1, links=links(2), links_used=1))
+        self.both(Settings(), full, one(), 0, True, Refused(4), INITIAL,
+                  replace(full, place=64, seen=1, links=links(2), links_used=1, triggers=WORD_4813))
 
     def test_refusal_6(self):
         """Nothing changes, and nothing is marked."""
@@ -184,6 +187,17 @@ class Lent(unittest.TestCase):
         self.assertEqual(reply.kept.fee_ids, array("H", [7, 0x502A]))
         self.assertEqual(len(Kept().fee_ids), 4096)
 
+    def test_trigger_counts(self):
+        """They may be any numbers, and as few as there are; they are always held, and come back, as 20 with their names."""
+        for given in ((5, 6), [5, 6], array("I", [5, 6]), bytes([5, 6]), TriggerCounts(5, 6), [5, 6] + [0] * 18):
+            with self.subTest(given=given):
+                kept = Kept(triggers=given)
+                self.assertIsInstance(kept.triggers, TriggerCounts)
+                self.assertEqual(kept.triggers, (5, 6, *[0] * 18))
+                after = kesarimbu.load(Settings(), kept, one(), 0, True).kept.triggers
+                self.assertIsInstance(after, TriggerCounts)
+                self.assertEqual(after, TriggerCounts(orbit=6, hb=7, pht=1, tf=1, rs=1))
+
     def test_numbers_that_do_not_fit(self):
         for settings in (Settings(link=256), Settings(fee=1 << 16), Settings(stave=-1)):
             with self.subTest(settings), self.assertRaises((OverflowError, ValueError)):
@@ -195,9 +209,12 @@ class Lent(unittest.TestCase):
         for first in (1 << 64, -1):
             with self.assertRaises((OverflowError, ValueError)):
                 kesarimbu.load(Settings(), Kept(), b"", first, True)
-        for lists in (dict(links=[256]), dict(links=[-1]), dict(links=bytes(257)), dict(fee_ids=[1 << 16]), dict(fee_ids=[-1])):
+        for lists in (dict(links=[256]), dict(links=[-1]), dict(links=bytes(257)), dict(fee_ids=[1 << 16]), dict(fee_ids=[-1]),
+                      dict(triggers=[1 << 32]), dict(triggers=[0] * 19 + [-1]), dict(triggers=[0] * 21)):
             with self.subTest(lists), self.assertRaises((OverflowError, ValueError)):
                 kesarimbu.load(Settings(), Kept(**lists), b"", 0, True)
+        for numbers in ([1.5], "12", [None]):
+            self.assertRaisesRegex(TypeError, "orbit is .*, and must be a whole number", Kept, triggers=numbers)
 
 
 class Scans(unittest.TestCase):

@@ -20,10 +20,10 @@ class Stored(unittest.TestCase):
             self.assertEqual(found[number], expected[number], f"case {number + 1} of {asked}: {put[number]}")
 
     def test_the_answers_of_the_rust(self):
-        self.replay("rust_cases.txt", "rust_answers.txt", 2069)
+        self.replay("rust_cases.txt", "rust_answers.txt", 2087)
 
     def test_the_answers_of_the_model(self):
-        self.replay("model_cases.txt", "model_answers.txt", 1792)
+        self.replay("model_cases.txt", "model_answers.txt", 1925)
 
 
 if __name__ == "__main__":

@@ -1,16 +1,13 @@
-"""Trigger words counted, and the texts of the counts: lists and comparisons."""
+"""The texts of trigger counts: lists and comparisons. How they are counted is in test_trigger_counts.py."""
 import unittest
 from array import array
-from dataclasses import astuple
 from itertools import combinations
 
 import kesarimbu
 from kesarimbu import Refused, TriggerCounts
 
 FULL = 0xFFFFFFFF
-# The bit of each count, in the order of the counts, its name in a comparison, as the Rust's struct has its fields, and its name in a list.
-# Bits 15 to 26 are spare.
-BITS = [*range(15), *range(27, 32)]
+# The name of each count, in their order: in a comparison, as the Rust's struct has its fields, and in a list.
 FIELDS = ["orbit", "hb", "hbr", "hc", "pht", "pp", "cal", "sot", "eot", "soc", "eoc", "tf", "fe_rst", "rt", "rs", "lhc_gap1", "lhc_gap2",
           "tpc_sync", "tpc_rst", "tof"]
 NAMES = ["Orbit", "HB", "HBr", "HC", "PhT", "PP", "CAL", "SOT", "EOT", "SOC", "EOC", "TF", "FE_rst", "RT", "RS", "LHC_gap1", "LHC_gap2",
@@ -48,52 +45,8 @@ def alike(n):
     return TriggerCounts(*[n] * 20)
 
 
-def with_word(n, word):
-    """Counts that are all `n`, with one word more."""
-    return kesarimbu.count_triggers(alike(n), [word])
-
-
 def mismatch(name, expected, got):
     return f"{name} mismatch! expected: {expected}, got: {got}\n"
-
-
-class Counts(unittest.TestCase):
-    def test_no_bit_all_bits_all_spare_bits(self):
-        self.assertEqual(with_word(5, 0), alike(5))
-        self.assertEqual(with_word(5, FULL), alike(6))
-        self.assertEqual(with_word(5, 0x07FF8000), alike(5))
-
-    def test_counts_that_wrap(self):
-        self.assertEqual(with_word(FULL, FULL), alike(0))
-        self.assertEqual(with_word(FULL, 0x40000004), TriggerCounts(**{**alike(FULL).__dict__, "hbr": 0, "tpc_rst": 0}))
-        self.assertEqual(with_word(FULL - 1, FULL), alike(FULL))
-
-    def test_words_in_a_row(self):
-        first = kesarimbu.count_triggers(TriggerCounts(), [0x4813])
-        self.assertEqual(first, TriggerCounts(orbit=1, hb=1, pht=1, tf=1, rs=1))
-        second = kesarimbu.count_triggers(first, [0x4003])
-        self.assertEqual(second, TriggerCounts(orbit=2, hb=2, pht=1, tf=1, rs=2))
-        third = kesarimbu.count_triggers(second, [0x88008003])
-        self.assertEqual(third, TriggerCounts(orbit=3, hb=3, pht=1, tf=1, rs=2, lhc_gap1=1, tof=1))
-        self.assertEqual(kesarimbu.count_triggers(TriggerCounts(), [0x4813, 0x4003, 0x88008003]), third)
-        self.assertEqual(kesarimbu.count_triggers(TriggerCounts(), array("I", [0x4813, 0x4003, 0x88008003])), third)
-        self.assertEqual(kesarimbu.count_triggers(third, []), third)
-
-    def test_each_bit_alone(self):
-        for bit in range(32):
-            with self.subTest(bit=bit):
-                expected = [0] * 20
-                if bit in BITS:
-                    expected[BITS.index(bit)] = 1
-                self.assertEqual(astuple(with_word(0, 1 << bit)), tuple(expected))
-
-    def test_numbers_that_do_not_fit(self):
-        for words in ([1 << 32], [-1]):
-            with self.assertRaises((OverflowError, ValueError)):
-                kesarimbu.count_triggers(TriggerCounts(), words)
-        for count in (1 << 32, -1):
-            with self.assertRaises((OverflowError, ValueError)):
-                kesarimbu.trigger_list(TriggerCounts(tof=count))
 
 
 class Texts(unittest.TestCase):
@@ -114,6 +67,35 @@ class Texts(unittest.TestCase):
     def listed(self, counts, length, text):
         self.written(lambda buffer: kesarimbu.trigger_list(counts, buffer), length, text)
         self.assertEqual(kesarimbu.trigger_list(counts), text)
+
+
+class Given(unittest.TestCase):
+    """Counts are `TriggerCounts` or any numbers in their order, 0 behind them; and each must fit 32 bits."""
+
+    def test_names_and_order(self):
+        self.assertEqual(list(TriggerCounts._fields), FIELDS)
+        self.assertEqual([getattr(TriggerCounts(*range(20)), name) for name in FIELDS], list(range(20)))
+
+    def test_numbers_of_every_kind(self):
+        expected = TriggerCounts(orbit=1, hb=2, hbr=3)
+        for counts in ((1, 2, 3), [1, 2, 3], array("I", [1, 2, 3]), array("Q", [1, 2, 3]), bytes([1, 2, 3]), range(1, 4), tuple(expected)):
+            with self.subTest(counts=counts):
+                self.assertEqual(kesarimbu.trigger_list(counts), kesarimbu.trigger_list(expected))
+                self.assertEqual(kesarimbu.trigger_compare(counts, expected), "")
+                self.assertEqual(kesarimbu.trigger_compare(expected, counts), "")
+        self.assertEqual(kesarimbu.trigger_list([]), kesarimbu.trigger_list(alike(0)))
+
+    def refused(self, counts, error, said):
+        for call in (kesarimbu.trigger_list, lambda given: kesarimbu.trigger_compare(given, ()),
+                     lambda given: kesarimbu.trigger_compare((), given)):
+            self.assertRaisesRegex(error, said, call, counts)
+
+    def test_numbers_that_do_not_fit(self):
+        for count in (1 << 32, 1 << 64, -1):
+            self.refused(TriggerCounts(tof=count), OverflowError, f"tof is {count}, and must be from 0 to 4294967295")
+            self.refused([0, count], OverflowError, f"hb is {count}, and must be from 0 to 4294967295")
+        self.refused([0, 0, 1.5], TypeError, "hbr is 1.5, and must be a whole number")
+        self.refused([0] * 21, ValueError, "21 trigger counts are given, and 20 are the most")
 
 
 class Lists(Texts):
@@ -139,12 +121,10 @@ class Comparisons(Texts):
         self.assertEqual(kesarimbu.trigger_compare(counts, expected), text)
         self.written(lambda buffer: kesarimbu.trigger_compare(counts, expected, buffer), length, text)
 
-    def test_each_bit_alone(self):
-        """A word with one bit, compared with no word. A spare bit counts nothing, so there is no difference."""
-        for bit in range(32):
-            with self.subTest(bit=bit):
-                lines = [mismatch(FIELDS[BITS.index(bit)], 0, 1)] if bit in BITS else []
-                self.compared(with_word(0, 1 << bit), alike(0), 44, *lines)
+    def test_each_count_alone(self):
+        for place, name in enumerate(FIELDS):
+            with self.subTest(name):
+                self.compared([0] * place + [1], alike(0), 44, mismatch(name, 0, 1))
 
     def test_equal(self):
         self.compared(alike(0), alike(0), 0)
@@ -157,11 +137,6 @@ class Comparisons(Texts):
                 lines = mismatch(first, 0, 2), mismatch(second, 0, 1)
                 self.compared(TriggerCounts(**{second: 1, first: 2}), alike(0), 80, *lines)
 
-    def test_bits_counted_in_reverse(self):
-        """The order is the fields', not that of the words counted."""
-        counts = kesarimbu.count_triggers(TriggerCounts(), [1 << bit for bit in reversed(BITS)])
-        self.compared(counts, alike(0), 700, *[mismatch(name, 0, 1) for name in FIELDS])
-
     def test_every_other_count(self):
         """Counts that are equal leave no gap, and the order of the rest stays."""
         for start in (0, 1):
@@ -169,15 +144,15 @@ class Comparisons(Texts):
             self.compared(TriggerCounts(**dict.fromkeys(chosen, 7)), alike(0), 400, *[mismatch(name, 0, 7) for name in chosen])
 
     def test_expected_is_the_others_count(self):
-        self.compared(with_word(7, 8), alike(7), 36, "hc mismatch! expected: 7, got: 8\n")
-        self.compared(alike(7), with_word(7, 8), 36, "hc mismatch! expected: 8, got: 7\n")
+        self.compared(alike(7)._replace(hc=8), alike(7), 36, "hc mismatch! expected: 7, got: 8\n")
+        self.compared(alike(7), alike(7)._replace(hc=8), 36, "hc mismatch! expected: 8, got: 7\n")
 
     def test_lengths(self):
         """A byte short, just long enough, longer, and nothing."""
         line = "fe_rst mismatch! expected: 9, got: 10\n"
         self.assertEqual(len(line), 38)
         for length in (37, 38, 39, 0):
-            self.compared(with_word(9, 0x1000), alike(9), length, line)
+            self.compared(alike(9)._replace(fe_rst=10), alike(9), length, line)
 
     def test_all_counts_differ(self):
         lines = [mismatch(name, 1, getattr(ORDINARY, name)) for name in FIELDS]

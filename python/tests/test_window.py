@@ -1,11 +1,11 @@
 """The window on an input that is read as the scan goes on (`listing_window`), by the loads of the crate `bench`: files with seeks, and pipes
-that are read and dropped. As many packets must be found as by loads on one window with all of it."""
+that are read and dropped. As many packets must be found as by loads on one window with all of it, and the same triggers counted."""
 import ctypes
 import itertools
 import random
 import unittest
 
-from kesarimbu import Settings
+from kesarimbu import Settings, structs
 from .differential import ROOT
 from .sources import file_with, pipe_with
 from .test_packets import exact
@@ -45,26 +45,29 @@ class Windows(unittest.TestCase):
         if not LIBRARY.exists():
             raise AssertionError(f"{LIBRARY} is not there: doors/test builds it")
         cls.load_all = ctypes.CDLL(str(LIBRARY)).kesarimbu_load_all
-        bytes_lent, places_lent = ctypes.POINTER(ctypes.c_uint8), ctypes.POINTER(ctypes.c_uint16)
-        cls.load_all.argtypes = [ctypes.c_int, bytes_lent, ctypes.c_size_t, ctypes.c_bool, places_lent, ctypes.c_size_t, ctypes.c_bool,
-                                 ctypes.c_bool]
+        bytes_lent, counts_lent, places_lent = map(ctypes.POINTER, (ctypes.c_uint8, ctypes.c_uint32, ctypes.c_uint16))
+        cls.load_all.argtypes = [ctypes.c_int, bytes_lent, ctypes.c_size_t, ctypes.c_bool, counts_lent, places_lent, ctypes.c_size_t,
+                                 ctypes.c_bool, ctypes.c_bool]
         cls.load_all.restype = ctypes.c_uint64
 
     def count(self, fd, buffer, whole, skip):
+        """How many packets are found, and the trigger counts of the headers seen."""
         lent = (ctypes.c_uint8 * len(buffer)).from_buffer(buffer)
-        return self.load_all(fd, lent, len(buffer), whole, (ctypes.c_uint16 * PLACES)(), PLACES, skip, True)
+        triggers = (ctypes.c_uint32 * structs.TRIGGERS)()
+        return self.load_all(fd, lent, len(buffer), whole, triggers, (ctypes.c_uint16 * PLACES)(), PLACES, skip, True), tuple(triggers)
 
     def hold(self, recording, skip, windows, sizes):
-        found, _ = exact(recording, Settings(skip_payload=skip), PLACES)
-        self.assertEqual(self.count(-1, bytearray(recording), True, skip), len(found))
+        found, last = exact(recording, Settings(skip_payload=skip), PLACES)
+        expected = len(found), last.kept.triggers
+        self.assertEqual(self.count(-1, bytearray(recording), True, skip), expected)
         with file_with(recording) as path:
             for window in windows:
                 with self.subTest(window=window, skip=skip), open(path, "rb", buffering=0) as file:
-                    self.assertEqual(self.count(file.fileno(), bytearray(window), False, skip), len(found))
+                    self.assertEqual(self.count(file.fileno(), bytearray(window), False, skip), expected)
         for window, size in itertools.product(windows, sizes):
             pieces = (recording[i:i + size] for i in range(0, len(recording), size))
             with self.subTest(window=window, skip=skip, pieces=size), pipe_with(pieces) as pipe:
-                self.assertEqual(self.count(pipe.fileno(), bytearray(window), False, skip), len(found))
+                self.assertEqual(self.count(pipe.fileno(), bytearray(window), False, skip), expected)
 
     def test_long_packets(self):
         self.hold(long_recording(), False, [LONGEST, LONGEST + 1], PIECES[1:])
@@ -85,7 +88,7 @@ class Windows(unittest.TestCase):
     def read_by(self, file):
         """How many bytes 100 loads that skip payload read, through a window of 64 bytes."""
         before = bytes_read()
-        self.assertEqual(self.count(file.fileno(), bytearray(64), False, True), 100)
+        self.assertEqual(self.count(file.fileno(), bytearray(64), False, True)[0], 100)
         return bytes_read() - before
 
     def test_recordings_of_every_kind(self):
@@ -95,7 +98,7 @@ class Windows(unittest.TestCase):
                 self.hold(recording, True, [64, 777], [63])
 
     def test_an_input_that_cannot_be_read(self):
-        self.assertEqual(self.count(-1, bytearray(LONGEST), False, False), 0)
+        self.assertEqual(self.count(-1, bytearray(LONGEST), False, False), (0, (0,) * structs.TRIGGERS))
 
 
 if __name__ == "__main__":

@@ -1,6 +1,7 @@
--- How many packets loads find in a recording that is one window.
-use Prim.Native.Nat.{ℕ, zero, suc, _+_}
+-- How many packets loads find in a recording that is one window, and what they count.
+use Prim.Native.Nat.{ℕ, zero, suc, _+_, _-_, _^_}
 use mathlib.Core.Bool.{Bool, true, false}
+use mathlib.Core.Path.{_≡_}
 use mathlib.Core.List.{List}
 use Rattle.basis.specs.Pick.{pick}
 use Rattle.basis.specs.Refusals.{Answer, gives, refuses}
@@ -8,6 +9,7 @@ use Rattle.filter.specs.declared.Option8.the-variants as Eight
 use Rattle.filter.specs.declared.Option16.the-variants as Sixteen
 use Rattle.scan_cdp.specs.Answers.{Found, handed, passed, wants}
 use Rattle.scan_cdp.specs.Loads.{loaded}
+use Rattle.scan_cdp.specs.Steps.{newState, withLent}
 use Rattle.scan_cdp.specs.declared.Part.{Part}
 use Rattle.scan_cdp.specs.declared.Settings.{Settings}
 use Rattle.scan_cdp.specs.declared.State.{State}
@@ -38,3 +40,23 @@ packetsFrom zero set s feeIds w = 0
 packetsFrom (suc n) set s feeIds w =
     let l = loaded set s feeIds w 0 true in
     pick (isPacket (l .answer)) (packetsFrom n set (l .state) (l .feeIds) w + 1) 0
+
+-- What they leave of the state.
+unfoldable pub leftFrom : ℕ → Settings → State → (feeIds w : List ℕ) → State
+leftFrom zero set s feeIds w = s
+leftFrom (suc n) set s feeIds w =
+    let l = loaded set s feeIds w 0 true in
+    pick (isPacket (l .answer)) (leftFrom n set (l .state) (l .feeIds) w) (l .state)
+
+-- A scan that has not begun, but has these trigger counts.
+abbrev pub begun : List ℕ → State
+begun triggers = withLent (newState .progress) (newState .links) triggers
+
+-- As many loads as 64 bits can count.
+abbrev pub most : ℕ
+most = 2 ^ 64 - 1
+
+-- The packets of a recording, and the trigger counts that were lent, raised by its headers.
+pub record CountsAll (set : Settings) (before feeIds w : List ℕ) (n : ℕ) (after : List ℕ) : Type 0 where
+  pub packets : n ≡ packetsFrom most set (begun before) feeIds w
+  pub triggers : after ≡ leftFrom most set (begun before) feeIds w .triggers

@@ -1,11 +1,9 @@
 // Loads over a recording, for a program in C that times them: nothing is done with a packet but to count it.
-ghost use Prim.Native.Nat.{_-_, _^_};
 ghost use mathlib.Core.Bool.{true};
 ghost use mathlib.Core.Path.{_≡_};
 ghost use Rattle.basis.specs.Pick.{pick};
-ghost use Rattle.scan_cdp.specs.Steps.{newState};
 ghost use Rattle.listing_window.specs.Held.{nothing};
-ghost use Rattle.bench.specs.Counted.{all, packetsFrom, settingsOf};
+ghost use Rattle.bench.specs.Counted.{CountsAll, all, settingsOf};
 use filter::FilterOpt;
 use filter::Option8;
 use filter::Option16;
@@ -15,21 +13,25 @@ use scan_cdp::BytePlace;
 use scan_cdp::LoadCdp;
 use scan_cdp::Settings;
 use scan_cdp::State;
+use trigger_stats::COUNTERS;
 
 // How many packets a recording has, up to the first refusal. It is read from a file through the window that `buffer` holds; or, if it is
-// `whole`, the buffer is the recording, and nothing is read. There is one call of the load for both, as in a program that uses it. Nothing
-// says that an input ends, and a proved loop must: so the turns are counted down, from a number that no run uses up.
+// `whole`, the buffer is the recording, and nothing is read. There is one call of the load for both, as in a program that uses it. The trigger
+// counts are lent, since of an array that nobody reads the compiler would leave the counting out. Nothing says that an input ends, and a proved
+// loop must: so the turns are counted down, from a number that no run uses up.
 #[no_mangle]
 pub extern "C" fn kesarimbu_load_all(
     fd: i32,
     buffer: &mut [u8],
     whole: bool,
+    triggers: &mut [u32; COUNTERS],
     fee_ids: &mut [u16],
     skip_payload: bool,
     stats: bool,
 ) -> u64
     ensures { λ r. ⌜ (whole ≡ true
-        → r ≡ packetsFrom (2 ^ 64 - 1) (settingsOf «skip_payload» stats) newState (now («fee_ids» .entry)) (now (buffer .entry))) ⌝ }
+        → CountsAll (settingsOf «skip_payload» stats) (now (triggers .entry)) (now («fee_ids» .entry)) (now (buffer .entry)) r
+        (now (triggers .exit))) ⌝ }
 {
     let set = settings(skip_payload, stats);
     let state = State::new();
@@ -47,6 +49,7 @@ pub extern "C" fn kesarimbu_load_all(
             set,
             progress,
             &mut links,
+            triggers,
             fee_ids,
             w,
             held.first,

@@ -5,12 +5,14 @@ pub mod Following
 pub mod Calls
 pub mod PacketLists
 pub mod OwnPositions
+pub mod CountedHeaders
 -- What is stated.
 pub mod ChainEntriesClaims
 pub mod SkipsClaims
 pub mod CallsFollowClaims
 pub mod PacketsClaims
 pub mod OwnPositionsClaims
+pub mod CountedHeadersClaims
 pub mod AddedBytesClaims
 -- Why it holds.
 pub mod ChainLaws
@@ -26,4 +28,5 @@ pub mod LoadLaws
 pub mod CallsFollowLaws
 pub mod PacketsLaws
 pub mod OwnPositionsLaws
+pub mod CountedHeadersLaws
 pub mod AddedBytesLaws

@@ -11,6 +11,7 @@ use chain_replay_calls::Told;
 use scan_cdp::Part;
 use scan_cdp::Progress;
 use scan_cdp::Settings;
+use trigger_stats::COUNTERS;
 
 // The last reply, and how many calls were made.
 pub struct Replayed {
@@ -25,6 +26,7 @@ pub fn replay(
     set: Settings,
     progress: Progress,
     links: &mut [u8; 256],
+    triggers: &mut [u32; COUNTERS],
     fee_ids: &mut [u16],
     recording: &[u8],
     loads: &[bool],
@@ -32,9 +34,9 @@ pub fn replay(
     sizes: &[u64],
     lasts: &[bool],
 ) -> Replayed
-    ensures { λ r. ⌜ Replays (now (recording .entry)) set (keeps progress (now (links .entry)) (now («fee_ids» .entry)))
+    ensures { λ r. ⌜ Replays (now (recording .entry)) set (keeps progress (now (links .entry)) (now (triggers .entry)) (now («fee_ids» .entry)))
         (callsOf (now (recording .entry)) (now (loads .entry)) (now (firsts .entry)) (now (sizes .entry)) (now (lasts .entry)))
-        (standOf (now (recording .entry)) (r .last) (now (links .exit)) (now («fee_ids» .exit))) (r .made) ⌝ }
+        (standOf (now (recording .entry)) (r .last) (now (links .exit)) (now (triggers .exit)) (now («fee_ids» .exit))) (r .made) ⌝ }
 {
     let count = fewest(loads.len(), firsts.len(), sizes.len(), lasts.len());
     let mut last = Called {
@@ -50,7 +52,7 @@ pub fn replay(
     while made < count {
         let from = last.progress;
         let asked = asked_at(loads, firsts, sizes, lasts, made);
-        last = chain_replay_calls::call(set, from, links, fee_ids, recording, asked);
+        last = chain_replay_calls::call(set, from, links, triggers, fee_ids, recording, asked);
         made += 1;
         if last.ends {
             return Replayed { last, made };

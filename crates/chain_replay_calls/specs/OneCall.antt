@@ -6,7 +6,7 @@ use lib.Dec.{leb}
 use lib.ListN.{length, take, drop}
 use Rattle.basis.specs.Pick.{pick}
 use Rattle.scan_cdp.specs.Answers.{examinedAnswer, loadAnswer}
-use Rattle.scan_cdp.specs.Steps.{withLinks}
+use Rattle.scan_cdp.specs.Steps.{withLent}
 use Rattle.scan_cdp.specs.Windows.{bytesAt}
 use Rattle.scan_cdp.specs.declared.Progress.{Progress}
 use Rattle.chain.specs.Calls.{Call, Reply, Window, endsBy, endsChain, entryRead, examination, examines, keptBy, load, loadRead, loads}
@@ -47,8 +47,8 @@ standBy r = record { reply = r ∷ []; kept = keptBy r; ends = endsChain r }
 
 -- ---- what the code says of it
 
-abbrev pub keeps : Progress → (links feeIds : List ℕ) → Kept
-keeps p links feeIds = record { state = withLinks p links; feeIds = feeIds }
+abbrev pub keeps : Progress → (links triggers feeIds : List ℕ) → Kept
+keeps p links triggers feeIds = record { state = withLent p links triggers; feeIds = feeIds }
 
 -- What was told on a window that has these bytes, with the payload's bytes as `payload` reads them: one reply, or none.
 abbrev pub toldOn : List ℕ → Kept → Told → List Reply
@@ -58,9 +58,9 @@ toldOn w k (Told.Examination a marks) =
 toldOn w k (Told.Load a marks) =
     load (loadRead w (record { answer = loadAnswer a; marks = marks; state = k .state; feeIds = k .feeIds })) ∷ []
 
-abbrev pub standOf : List ℕ → Called → (links feeIds : List ℕ) → Stand
-standOf recording c links feeIds =
-    let k = keeps (c .progress) links feeIds in
+abbrev pub standOf : List ℕ → Called → (links triggers feeIds : List ℕ) → Stand
+standOf recording c links triggers feeIds =
+    let k = keeps (c .progress) links triggers feeIds in
     record { reply = toldOn (bytesAt recording (c .window)) k (c .told); kept = k; ends = c .ends }
 
 -- Whether what was told ends the chain, where state and list alone meet refusal 6 or do not.

@@ -1,12 +1,12 @@
 // One call on a window of a recording: the part that is asked for is lent to the load or the examination, and what that replies is told, with
 // whether it ends the recording's chain.
 ghost use mathlib.Core.Bool.{_&&_};
-ghost use mathlib.Core.List.{_∷_, []};
+ghost use mathlib.Core.List.{List, _∷_, []};
 ghost use mathlib.Core.Path.{_≡_};
-ghost use Prim.Native.Nat.{_+_};
+ghost use Prim.Native.Nat.{ℕ, _+_};
 ghost use lib.Dec.{leb};
 ghost use Rattle.scan_cdp.specs.Answers.{loadAnswer};
-ghost use Rattle.scan_cdp.specs.Steps.{unusable, withLinks};
+ghost use Rattle.scan_cdp.specs.Steps.{unusable, withLent};
 ghost use Rattle.scan_cdp.specs.Windows.{bytesAt};
 ghost use Rattle.chain.specs.Calls.{endsBy, replyTo};
 ghost use Rattle.chain_replay_calls.specs.OneCall.{callAt, callOn, endsTold, keeps, lentAs, standBy, standOf, toldOn};
@@ -19,6 +19,7 @@ use scan_cdp::Part;
 use scan_cdp::Progress;
 use scan_cdp::Refusal;
 use scan_cdp::Settings;
+use trigger_stats::COUNTERS;
 
 // One call as it is asked for.
 pub struct Asked {
@@ -35,8 +36,8 @@ pub enum Told {
     Load(LoadCdp, LoadMarks),
 }
 
-// What a call replied, the part of the recording that was its window, and whether the reply ends the chain. Links and FEE ids are left
-// where they are lent.
+// What a call replied, the part of the recording that was its window, and whether the reply ends the chain. Links, trigger counts and
+// FEE ids are left where they are lent.
 pub struct Called {
     pub told: Told,
     pub window: Part,
@@ -56,12 +57,14 @@ pub fn call(
     set: Settings,
     progress: Progress,
     links: &mut [u8; 256],
+    triggers: &mut [u32; COUNTERS],
     fee_ids: &mut [u16],
     recording: &[u8],
     asked: Asked,
 ) -> Called
-    ensures { λ r. ⌜ standOf (now (recording .entry)) r (now (links .exit)) (now («fee_ids» .exit))
-        ≡ standBy (replyTo set (keeps progress (now (links .entry)) (now («fee_ids» .entry))) (callAt (now (recording .entry)) asked)) ⌝ }
+    ensures { λ r. ⌜ standOf (now (recording .entry)) r (now (links .exit)) (now (triggers .exit)) (now («fee_ids» .exit))
+        ≡ standBy (replyTo set (keeps progress (now (links .entry)) (now (triggers .entry)) (now («fee_ids» .entry)))
+        (callAt (now (recording .entry)) asked)) ⌝ }
 {
     let window = part_of(asked);
     let lent = scan_window::payload(recording, window);
@@ -70,6 +73,7 @@ pub fn call(
         set,
         progress,
         links,
+        triggers,
         fee_ids,
         lent,
         BytePlace(asked.first),
@@ -120,18 +124,29 @@ fn make(
     set: Settings,
     progress: Progress,
     links: &mut [u8; 256],
+    triggers: &mut [u32; COUNTERS],
     fee_ids: &mut [u16],
     window: &[u8],
     first: BytePlace,
     last: bool,
     is_load: bool,
 ) -> Made
-    ensures { λ r. ⌜ toldOn (now (window .entry)) (keeps (r .progress) (now (links .exit)) (now («fee_ids» .exit))) (r .told)
-        ≡ replyTo set (keeps progress (now (links .entry)) (now («fee_ids» .entry)))
+    ensures { λ r. ⌜ toldOn (now (window .entry))
+        (keeps (r .progress) (now (links .exit)) (now (triggers .exit)) (now («fee_ids» .exit))) (r .told)
+        ≡ replyTo set (keeps progress (now (links .entry)) (now (triggers .entry)) (now («fee_ids» .entry)))
         (callOn «is_load» (lentAs (now (window .entry)) (first .0) last)) ∷ [] ⌝ }
 {
     if is_load {
-        let load = input_scanner::load_cdp(set, progress, links, fee_ids, window, first, last);
+        let load = input_scanner::load_cdp(
+            set,
+            progress,
+            links,
+            triggers,
+            fee_ids,
+            window,
+            first,
+            last,
+        );
         let answer = load.answer;
         let marks = load.marks;
         let progress = load.progress;
@@ -140,7 +155,16 @@ fn make(
             progress,
         };
     }
-    let examination = input_scanner::examine(set, progress, links, fee_ids, window, first, last);
+    let examination = input_scanner::examine(
+        set,
+        progress,
+        links,
+        triggers,
+        fee_ids,
+        window,
+        first,
+        last,
+    );
     let answer = examination.answer;
     let marks = examination.marks;
     let progress = examination.progress;
@@ -175,9 +199,9 @@ fn ends_load(found: LoadCdp, six: bool) -> bool
     }
 }
 
-// Refusal 6 by state and list alone.
+// Refusal 6 by state and list alone, whatever the trigger counts are.
 fn unusable(progress: Progress, links: &[u8], fee_ids: &[u16]) -> bool
-    ensures { λ r. ⌜ r ≡ unusable (withLinks progress (now (links .entry))) (now («fee_ids» .entry)) ⌝ }
+    ensures { λ r. ⌜ ((triggers : List ℕ) → r ≡ unusable (withLent progress (now (links .entry)) triggers) (now («fee_ids» .entry))) ⌝ }
 {
     scan_window::numbers_unusable(progress, links.len(), fee_ids.len())
         | stats::has_link_twice(links, progress.links_used)

@@ -29,22 +29,23 @@ fn main() {
 // Packets of links 1, 2 and 1, with 16 bytes, none and 32 bytes of payload, of which 8 are left.
 fn recording() -> [u8; 216] {
     let mut bytes = [0u8; 216];
-    packet(&mut bytes, 0, 80, 1);
+    packet(&mut bytes, 0, 80, 1, 0x1);
     bytes[64] = 0xA0;
     bytes[79] = 0xAF;
-    packet(&mut bytes, 80, 64, 2);
-    packet(&mut bytes, 144, 96, 1);
+    packet(&mut bytes, 80, 64, 2, 0x3);
+    packet(&mut bytes, 144, 96, 1, 0x5);
     bytes
 }
 
-// The fields of a header that a scan goes by: FEE id, offset, memory size and link.
-fn packet(bytes: &mut [u8; 216], at: usize, size: u8, link: u8)
+// The fields of a header that a scan goes by, FEE id, offset, memory size and link; and the trigger type, which it counts.
+fn packet(bytes: &mut [u8; 216], at: usize, size: u8, link: u8, trigger: u8)
     requires { ⌜ at ≤ 144 ⌝ }
 {
     bytes[at + 2] = link;
     bytes[at + 8] = size;
     bytes[at + 10] = size;
     bytes[at + 12] = link;
+    bytes[at + 32] = trigger;
 }
 
 fn settings() -> Settings {
@@ -68,11 +69,13 @@ fn replayed(recording: &[u8], loads: &[bool]) {
     let begun = State::new();
     let progress = begun.progress;
     let mut links = begun.links;
+    let mut triggers = begun.triggers;
     let mut fee_ids = [0u16; 2];
     let replayed = chain_replay::replay(
         settings(),
         progress,
         &mut links,
+        &mut triggers,
         &mut fee_ids,
         recording,
         loads,
@@ -88,6 +91,7 @@ fn replayed(recording: &[u8], loads: &[bool]) {
     let progress = last.progress;
     told(recording, window, answer);
     left(progress);
+    counted(triggers[0], triggers[1], triggers[2]);
     if last.ends {
         cases_show::text(b", the end");
     }
@@ -140,4 +144,12 @@ fn left(progress: Progress) {
     cases_show::number(progress.counts.seen as u64);
     cases_show::number(progress.counts.filtered as u64);
     cases_show::number(progress.counts.payload as u64);
+}
+
+// The trigger counts of the bits that the headers have.
+fn counted(orbit: u32, hb: u32, hbr: u32) {
+    cases_show::text(b" triggers");
+    cases_show::number(orbit as u64);
+    cases_show::number(hb as u64);
+    cases_show::number(hbr as u64);
 }

@@ -2,6 +2,7 @@
 use Rattle.chain.specs.AddedBytesClaims.{AddedBytes}
 use Rattle.chain.specs.CallsFollowClaims.{CallsFollow, LeavesRest}
 use Rattle.chain.specs.ChainEntriesClaims.{Allowance, EntryByEntry, OnlyEntries, RefusedLast}
+use Rattle.chain.specs.CountedHeadersClaims.{CallsCount}
 use Rattle.chain.specs.OwnPositionsClaims.{OwnAtHeader, OwnInCall, OwnNotBefore, OwnOverLoads, OwnUnfiltered}
 use Rattle.chain.specs.PacketsClaims.{EachOnce, ExactlyMatching, MatchingInTurn, NoneMissing, ReachesEnd}
 use Rattle.chain.specs.SkipsClaims.{EachSkipsAhead}
@@ -47,6 +48,8 @@ pub record Demand3 : Type 0 where
   -- .. so that without a filter the two are one number, and the own one is never before the other.
   pub own-unfiltered : OwnUnfiltered
   pub own-not-before : OwnNotBefore
+  -- K5, G5: the counts of seen headers and of triggers are those of the headers that the calls met on the walk and that were counted.
+  pub counts : CallsCount
   -- D3.5, D3.6: added bytes change no entry but a closing refusal 1 and a last payload that was cut.
   pub added : AddedBytes
   -- D3.7: the replies to any list of checks on one validator follow from its settings and start, the headers and the buffers' lengths.

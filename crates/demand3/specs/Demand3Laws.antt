@@ -2,6 +2,7 @@
 use Rattle.chain.specs.AddedBytesLaws.{added-bytes}
 use Rattle.chain.specs.CallsFollowLaws.{calls-follow, leaves-rest}
 use Rattle.chain.specs.ChainEntriesLaws.{allowance, entry-by-entry, only-entries, refused-last}
+use Rattle.chain.specs.CountedHeadersLaws.{calls-count}
 use Rattle.chain.specs.OwnPositionsLaws.{own-at-header, own-in-call, own-not-before, own-over-loads, own-unfiltered}
 use Rattle.chain.specs.PacketsLaws.{each-once, exactly-matching, matching-in-turn, none-missing, reaches-end}
 use Rattle.chain.specs.SkipsLaws.{each-skips-ahead}
@@ -32,6 +33,7 @@ demand-3 =
       own-in-call = own-in-call;
       own-unfiltered = own-unfiltered;
       own-not-before = own-not-before;
+      counts = calls-count;
       added = added-bytes;
       verdicts = follows;
       texts = texts-left;

@@ -1,12 +1,12 @@
 -- Examples, which no public contract cites. D3.1 on a small recording, computed: there are two packets of 64 bytes, and four calls on
 -- windows that meet the premises. The replies and the chain are written out, so that a reader sees that they agree. Then both ends of S10,
--- and the two positions of S12.
+-- the two positions of S12, and the trigger counts of G5.
 use Prim.Native.Nat.{ℕ}
 use mathlib.Core.Bool.{Bool, true, false, false≢true}
 use mathlib.Core.Path.{_≡_, refl}
 use mathlib.Core.List.{List, [], _∷_, _++_, flatMap, map}
 use native.Mathlib.Omega.{arith}
-use lib.IntN.{ℤ, pos}
+use lib.IntN.{ℤ, pos, subℕ}
 use lib.ListN.{drop, replicate, take}
 use Rattle.basis.specs.Bytes.{bytesOf, little, numberAt}
 use Rattle.basis.specs.Pick.{pick}
@@ -16,17 +16,20 @@ use Rattle.filter.specs.declared.Option16.the-variants as Option16
 use Rattle.serde_rdh.specs.Layout.{decoded, header, span}
 use Rattle.scan_cdp.specs.Answers.{Found, passed, wants}
 use Rattle.scan_cdp.specs.Loads.{loaded, loadedFrom, together}
-use Rattle.scan_cdp.specs.Steps.{Entry, cut, ended, entryOf, initialOf, marksOf, newState, payloadOf, placeAfter, placesListed, progressAfter, raised, step, tallied, outcomeIn, unusable, usedListed}
+use Rattle.scan_cdp.specs.Steps.{Entry, cut, ended, entryOf, initialOf, marksOf, newState, payloadOf, placeAfter, placesListed, progressAfter, raised, step, tallied, triggersAfter, outcomeIn, unusable, usedListed, withLent}
 use Rattle.scan_cdp.specs.Outcomes.{filtered, offset, skipDistance, outcomeOf}
 use Rattle.scan_cdp.specs.Windows.{bytesAt, examined, outside, partAt}
 use Rattle.scan_cdp.specs.declared.OpenLoad.the-variants as Load
 use Rattle.scan_cdp.specs.declared.Settings.{Settings}
 use Rattle.stats.specs.Counts.{added}
 use Rattle.stats.specs.Lists.{full, member, placesAfter, twice, usedAfter}
+use Rattle.trigger_stats.specs.Counters.{bitOf, count, counted, placeOf}
 use Rattle.chain.specs.Calls.{Call, Reply, Window, Windows, along, replyAnswer, examines, loads, replies, replyTo}
 use Rattle.chain.specs.CallsFollowLaws.{calls-follow}
 use Rattle.chain.specs.Chain.{Kept, chain, chainOf, isRefused}
-use Rattle.chain.specs.Following.{repliesOf}
+use Rattle.chain.specs.CountedHeaders.{seenOf, triggersOf}
+use Rattle.chain.specs.CountedHeadersClaims.{after}
+use Rattle.chain.specs.Following.{keptAfter, repliesOf}
 use Rattle.chain.specs.OwnPositions.{WholeLoad, offsets, wholeLoads}
 use Rattle.chain.specs.Walk.{Met, walk, walkAlong}
 use Rattle.demand3.specs.MarkedCasesLaws.{_then_}
@@ -167,6 +170,7 @@ opened =
           «fee_ids_used» = 0;
         };
         links = newState .links;
+        triggers = newState .triggers;
       };
       feeIds = start .feeIds;
     }
@@ -176,3 +180,35 @@ pub own-before-start : answers (replies last-fee opened one-load)
     ≡ gives (wants (record { 0 = 80 }) 64) ∷ gives passed ∷ givenAt 1000 144 0x3006 64 ∷ []
 unfolding one-load three recording sample bytesOf numberAt little decoded header span repliesOf replyTo examined outside unusable twice member step entryOf marksOf tallied raised added initialOf outcomeIn outcomeOf filtered full payloadOf cut placesListed placesAfter usedListed usedAfter progressAfter placeAfter ended loaded loadedFrom together bytesAt partAt
 own-before-start = refl
+
+-- ---- the trigger counts (G5)
+
+-- A header that a filter for the FEE id 0x3006 passes, one that it takes, another one to pass, and one whose offset is bad.
+unfoldable pub four : List ℕ
+four = sample 0x502A 64 0 0x3 ++ sample 0x3006 64 0 0x4813 ++ sample 0x502A 64 0 0x80000001 ++ sample 0x502A 63 0 0xFFFFFFFF
+
+abbrev counting : Settings
+counting = record { filter = last-fee .filter; «skip_payload» = true; stats = true }
+
+-- A state made by hand, whose last trigger count is full.
+abbrev nearly : Kept
+nearly =
+    record {
+      state = withLent (newState .progress) (newState .links) (replicate 19 0 ++ (0xFFFFFFFF ∷ []));
+      feeIds = start .feeIds;
+    }
+
+-- A load that passes the first header and hands out the second, and a load that passes the third and is refused with 2 at the fourth.
+pub two-loads : List Call
+two-loads =
+    loads (record { bytes = four; first = 0; last = true })
+    ∷ loads (record { bytes = four; first = 0; last = true })
+    ∷ []
+
+-- Three headers are counted, the passed ones among them, and the fourth, which is a later one, is not. The last count starts again at 0.
+pub counts-left : (answers (replies counting nearly two-loads) ≡ givenAt 0 64 0x3006 64 ∷ refuses 2 (subℕ 63 64 ∷ pos 192 ∷ []) ∷ [])
+    × (seenOf (after counting nearly two-loads) ≡ 3)
+    × (triggersOf (after counting nearly two-loads)
+    ≡ 3 ∷ 2 ∷ 0 ∷ 0 ∷ 1 ∷ 0 ∷ 0 ∷ 0 ∷ 0 ∷ 0 ∷ 0 ∷ 1 ∷ 0 ∷ 0 ∷ 1 ∷ 0 ∷ 0 ∷ 0 ∷ 0 ∷ 0 ∷ [])
+unfolding two-loads four sample bytesOf numberAt little decoded header span repliesOf keptAfter replyTo unusable twice member step entryOf marksOf tallied raised added initialOf outcomeIn outcomeOf filtered full payloadOf cut placesListed placesAfter usedListed usedAfter triggersAfter counted count placeOf bitOf progressAfter placeAfter ended examined outside loaded loadedFrom together bytesAt partAt
+counts-left = (refl, refl, refl)

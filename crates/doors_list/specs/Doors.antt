@@ -15,18 +15,21 @@ use Rattle.doors_list.specs.declared.PlainListed.{PlainListed}
 pub record Left : Type 0 where
   pub reply : PlainListed
   pub links : List ℕ
+  pub triggers : List ℕ
   pub feeIds : List ℕ
   pub out : List ℕ
 
-abbrev pub left : PlainListed → (links feeIds out : List ℕ) → Left
-left reply links feeIds out = record { reply = reply; links = links; feeIds = feeIds; out = out }
+abbrev pub left : PlainListed → (links triggers feeIds out : List ℕ) → Left
+left reply links triggers feeIds out = record { reply = reply; links = links; triggers = triggers; feeIds = feeIds; out = out }
 
 -- What a call that made this listing leaves.
 abbrev pub leftBy : Listing → Left
-leftBy o = left (listedWith (o .stop) (o .state .progress) (o .validator) (o .bytes) (o .unsound)) (o .state .links) (o .feeIds) (o .out)
+leftBy o =
+    left (listedWith (o .stop) (o .state .progress) (o .validator) (o .bytes) (o .unsound)) (o .state .links) (o .state .triggers) (o .feeIds)
+    (o .out)
 
 -- What a listing leaves.
-unfoldable pub listedThrough : PlainSettings → PlainState → PlainValidator → (links feeIds w : List ℕ) → (first : ℕ) → (last : Bool)
+unfoldable pub listedThrough : PlainSettings → PlainState → PlainValidator → (links triggers feeIds w : List ℕ) → (first : ℕ) → (last : Bool)
     → (out : List ℕ) → Left
-listedThrough settings state validator links feeIds w first last out =
-    leftBy (listedInto out (settingsOf settings) (validatorOf validator) (stateOf state links) feeIds w first last)
+listedThrough settings state validator links triggers feeIds w first last out =
+    leftBy (listedInto out (settingsOf settings) (validatorOf validator) (stateOf state links triggers) feeIds w first last)

@@ -19,6 +19,7 @@ use doors_verdict::plain::validator_of;
 use listing_batch::Stop;
 use scan_cdp::BytePlace;
 use scan_cdp::Progress;
+use trigger_stats::COUNTERS;
 use validators::RdhCruSanityValidator;
 
 // The kind of an answer that only a listing has: the buffer may have no room for the next packet's lines.
@@ -42,20 +43,22 @@ pub extern "C" fn kesarimbu_list(
     state: PlainState,
     validator: PlainValidator,
     links: &mut [u8; 256],
+    triggers: &mut [u32; COUNTERS],
     fee_ids: &mut [u16],
     window: &[u8],
     first: u64,
     last: bool,
     out: &mut [u8],
 ) -> PlainListed
-    ensures { λ r. ⌜ left r (now (links .exit)) (now («fee_ids» .exit)) (now (out .exit))
-        ≡ listedThrough settings state validator (now (links .entry)) (now («fee_ids» .entry)) (now (window .entry)) first last
-        (now (out .entry)) ⌝ }
+    ensures { λ r. ⌜ left r (now (links .exit)) (now (triggers .exit)) (now («fee_ids» .exit)) (now (out .exit))
+        ≡ listedThrough settings state validator (now (links .entry)) (now (triggers .entry)) (now («fee_ids» .entry)) (now (window .entry))
+        first last (now (out .entry)) ⌝ }
 {
     let batch = listing_batch::list_loads(
         settings_of(settings),
         progress_of(state),
         links,
+        triggers,
         validator_of(validator),
         fee_ids,
         window,

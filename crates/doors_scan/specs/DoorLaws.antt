@@ -26,7 +26,7 @@ readLoad l =
     record {
       answer = readAnswer (l .reply .answer) (l .header);
       marks = readMarks (l .reply .marks);
-      state = stateOf (l .reply .state) (l .links);
+      state = stateOf (l .reply .state) (l .links) (l .triggers);
       feeIds = l .feeIds;
     }
 
@@ -36,7 +36,7 @@ readExamination l =
     record {
       answer = readAnswer (l .reply .answer) (l .header);
       marks = readOne (l .reply .marks);
-      state = stateOf (l .reply .state) (l .links);
+      state = stateOf (l .reply .state) (l .links) (l .triggers);
       feeIds = l .feeIds;
     }
 
@@ -72,10 +72,10 @@ found-kind (gives (wants place size)) e = omega arith
 found-kind (refuses number values) e = omega arith
 
 -- .. and a load has no other.
-pub never-passed : (settings : PlainSettings) (state : PlainState) (links feeIds w : List ℕ) (first : ℕ) (last : Bool) (header : List ℕ)
-    → kindPacket ≤ loadedThrough settings state links feeIds w first last header .reply .answer .kind
+pub never-passed : (settings : PlainSettings) (state : PlainState) (links triggers feeIds w : List ℕ) (first : ℕ) (last : Bool) (header : List ℕ)
+    → kindPacket ≤ loadedThrough settings state links triggers feeIds w first last header .reply .answer .kind
 unfolding loadedThrough
-never-passed settings state links feeIds w first last header =
+never-passed settings state links triggers feeIds w first last header =
     let set = settingsOf settings in
-    let s = stateOf state links in
+    let s = stateOf state links triggers in
     found-kind (loaded set s feeIds w first last .answer) (loaded-answers set s feeIds w first last)

@@ -16,6 +16,7 @@ use scan_cdp::BytePlace;
 use scan_cdp::Examined;
 use scan_cdp::LoadMarks;
 use scan_cdp::Progress;
+use trigger_stats::COUNTERS;
 
 mod header;
 
@@ -25,19 +26,21 @@ pub extern "C" fn kesarimbu_examine(
     settings: PlainSettings,
     state: PlainState,
     links: &mut [u8; 256],
+    triggers: &mut [u32; COUNTERS],
     fee_ids: &mut [u16],
     window: &[u8],
     first: u64,
     last: bool,
     header: &mut [u8; RDH_CRU_SIZE_BYTES],
 ) -> PlainReply
-    ensures { λ r. ⌜ left r (now (links .exit)) (now («fee_ids» .exit)) (now (header .exit))
-        ≡ examinedThrough settings state (now (links .entry)) (now («fee_ids» .entry)) (now (window .entry)) first last (now (header .entry)) ⌝ }
+    ensures { λ r. ⌜ left r (now (links .exit)) (now (triggers .exit)) (now («fee_ids» .exit)) (now (header .exit))
+        ≡ examinedThrough settings state (now (links .entry)) (now (triggers .entry)) (now («fee_ids» .entry)) (now (window .entry)) first last
+        (now (header .entry)) ⌝ }
 {
     let set = settings_of(settings);
     let progress = progress_of(state);
     let first = BytePlace(first);
-    let examination = examine(set, progress, links, fee_ids, window, first, last);
+    let examination = examine(set, progress, links, triggers, fee_ids, window, first, last);
     let answer = examination.answer;
     let marks = examination.marks;
     hand_back(answer, alone(marks), examination.progress, header)
@@ -49,19 +52,21 @@ pub extern "C" fn kesarimbu_load(
     settings: PlainSettings,
     state: PlainState,
     links: &mut [u8; 256],
+    triggers: &mut [u32; COUNTERS],
     fee_ids: &mut [u16],
     window: &[u8],
     first: u64,
     last: bool,
     header: &mut [u8; RDH_CRU_SIZE_BYTES],
 ) -> PlainReply
-    ensures { λ r. ⌜ left r (now (links .exit)) (now («fee_ids» .exit)) (now (header .exit))
-        ≡ loadedThrough settings state (now (links .entry)) (now («fee_ids» .entry)) (now (window .entry)) first last (now (header .entry)) ⌝ }
+    ensures { λ r. ⌜ left r (now (links .exit)) (now (triggers .exit)) (now («fee_ids» .exit)) (now (header .exit))
+        ≡ loadedThrough settings state (now (links .entry)) (now (triggers .entry)) (now («fee_ids» .entry)) (now (window .entry)) first last
+        (now (header .entry)) ⌝ }
 {
     let set = settings_of(settings);
     let progress = progress_of(state);
     let first = BytePlace(first);
-    let load = load_cdp(set, progress, links, fee_ids, window, first, last);
+    let load = load_cdp(set, progress, links, triggers, fee_ids, window, first, last);
     let answer = load.answer;
     let marks = load.marks;
     hand_back(Examined::Answered(answer), marks, load.progress, header)

@@ -39,7 +39,7 @@ settingsOf n =
 abbrev pub openLoad : Bool → ℕ → OpenLoad
 openLoad opened start = pick opened (Load.From (record { 0 = start })) Load.None
 
--- The state that C's struct means, all but the links.
+-- The state that C's struct means, all but the links and the trigger counts.
 abbrev pub progressOf : PlainState → Progress
 progressOf n =
     record {
@@ -51,9 +51,9 @@ progressOf n =
       «fee_ids_used» = n .«fee_ids_used»;
     }
 
--- The state that C's struct means with the links beside it.
-abbrev pub stateOf : PlainState → List ℕ → State
-stateOf n links = record { progress = progressOf n; links = links }
+-- The state that C's struct means with the links and the trigger counts beside it.
+abbrev pub stateOf : PlainState → (links triggers : List ℕ) → State
+stateOf n links triggers = record { progress = progressOf n; links = links; triggers = triggers }
 
 abbrev pub isOpen : OpenLoad → Bool
 isOpen Load.None = false
@@ -64,7 +64,7 @@ abbrev pub startOr0 : OpenLoad → ℕ
 startOr0 Load.None = 0
 startOr0 (Load.From start) = start .0
 
--- C's struct for a state, all but the links.
+-- C's struct for a state, all but the links and the trigger counts.
 abbrev pub plainState : Progress → PlainState
 plainState p =
     record {

@@ -23,7 +23,7 @@ load-again : (l : OpenLoad) → openLoad (isOpen l) (startOr0 l) ≡ l
 load-again Load.None = refl
 load-again (Load.From start) = refl
 
--- The state that a call leaves is the one that the next call finds: all but the links ..
+-- The state that a call leaves is the one that the next call finds: all but the links and the trigger counts ..
 pub progress-again : (p : Progress) → progressOf (plainState p) ≡ p
 progress-again p =
     λ i. record {
@@ -36,8 +36,8 @@ progress-again p =
     }
 
 -- .. and with them.
-pub state-again : (s : State) → stateOf (plainState (s .progress)) (s .links) ≡ s
-state-again s = λ i. record { progress = progress-again (s .progress) i; links = s .links }
+pub state-again : (s : State) → stateOf (plainState (s .progress)) (s .links) (s .triggers) ≡ s
+state-again s = λ i. record { progress = progress-again (s .progress) i; links = s .links; triggers = s .triggers }
 
 -- The start of no load is 0.
 abbrev pub ClosedAt0 : PlainState → Type 0
@@ -89,8 +89,8 @@ zeroState =
       «load_open» = false;
     }
 
--- With 256 links of 0 it is the state of a scan that has not begun.
-pub zeros-begin : stateOf zeroState (replicate 256 0) ≡ newState
+-- With 256 links of 0 and 20 trigger counts of 0 it is the state of a scan that has not begun.
+pub zeros-begin : stateOf zeroState (replicate 256 0) (replicate 20 0) ≡ newState
 zeros-begin = refl
 
 -- ---- the settings

@@ -24,8 +24,8 @@ pub struct PlainSettings {
     pub stats: bool,
 }
 
-// What a scan keeps between two calls, beside the links and the FEE ids, which are lent. `load_start` counts only while a load is open, and
-// is left at 0 otherwise.
+// What a scan keeps between two calls, beside the links, the trigger counts and the FEE ids, which are lent. `load_start` counts only while a
+// load is open, and is left at 0 otherwise.
 #[repr(C)]
 pub struct PlainState {
     pub place: u64,
@@ -72,7 +72,7 @@ fn option16(given: bool, n: u16) -> Option16
     Option16::None
 }
 
-// The state that a plain struct says, all but the links.
+// The state that a plain struct says, all but the links and the trigger counts.
 pub fn progress_of(n: PlainState) -> Progress
     ensures { λ r. ⌜ r ≡ progressOf n ⌝ }
 {
@@ -99,7 +99,7 @@ fn open_load(opened: bool, start: u64) -> OpenLoad
     OpenLoad::None
 }
 
-// The plain struct that says a state, all but the links.
+// The plain struct that says a state, all but the links and the trigger counts.
 pub fn plain_state(p: Progress) -> PlainState
     ensures { λ r. ⌜ r ≡ plainState p ⌝ }
 {

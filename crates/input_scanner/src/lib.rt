@@ -2,7 +2,7 @@
 ghost use mathlib.Core.Path.{_≡_};
 ghost use Prim.Native.Nat.{_+_, _≤_};
 ghost use Rattle.basis.specs.Pick.{pick};
-ghost use Rattle.scan_cdp.specs.Steps.{limit, withLinks};
+ghost use Rattle.scan_cdp.specs.Steps.{limit, withLent};
 ghost use Rattle.scan_cdp.specs.Windows.{examined};
 ghost use Rattle.scan_cdp.specs.Loads.{eitherInitial, loaded, noLoadMarks, together};
 ghost use Rattle.scan_replies.specs.Examinations.{examinationOf};
@@ -19,8 +19,9 @@ use scan_cdp::Settings;
 use scan_replies::Examination;
 use scan_replies::unchanged;
 use scan_step::take_step;
+use trigger_stats::COUNTERS;
 
-// What a load replies. Links and FEE ids are left where they are lent.
+// What a load replies. Links, trigger counts and FEE ids are left where they are lent.
 pub struct Load {
     pub answer: LoadCdp,
     pub marks: LoadMarks,
@@ -33,18 +34,20 @@ pub fn examine(
     set: Settings,
     progress: Progress,
     links: &mut [u8; 256],
+    triggers: &mut [u32; COUNTERS],
     fee_ids: &mut [u16],
     window: &[u8],
     first: BytePlace,
     last: bool,
 ) -> Examination
-    ensures { λ r. ⌜ examinationOf r (now (links .exit)) (now («fee_ids» .exit))
-        ≡ examined set (withLinks progress (now (links .entry))) (now («fee_ids» .entry)) (now (window .entry)) (first .0) last ⌝ }
+    ensures { λ r. ⌜ examinationOf r (now (links .exit)) (now (triggers .exit)) (now («fee_ids» .exit))
+        ≡ examined set (withLent progress (now (links .entry)) (now (triggers .entry))) (now («fee_ids» .entry)) (now (window .entry))
+        (first .0) last ⌝ }
 {
     if stats::has_link_twice(links, progress.links_used) {
         return unchanged(progress, LoadCdp::Refused(Refusal::Unusable));
     }
-    take_step(set, progress, links, fee_ids, window, first, last)
+    take_step(set, progress, links, triggers, fee_ids, window, first, last)
 }
 
 // Loads the next packet: examines headers up to the first that is not passed.
@@ -52,13 +55,15 @@ pub fn load_cdp(
     set: Settings,
     progress: Progress,
     links: &mut [u8; 256],
+    triggers: &mut [u32; COUNTERS],
     fee_ids: &mut [u16],
     window: &[u8],
     first: BytePlace,
     last: bool,
 ) -> Load
-    ensures { λ r. ⌜ loadOf r (now (links .exit)) (now («fee_ids» .exit))
-        ≡ loaded set (withLinks progress (now (links .entry))) (now («fee_ids» .entry)) (now (window .entry)) (first .0) last ⌝ }
+    ensures { λ r. ⌜ loadOf r (now (links .exit)) (now (triggers .exit)) (now («fee_ids» .exit))
+        ≡ loaded set (withLent progress (now (links .entry)) (now (triggers .entry))) (now («fee_ids» .entry)) (now (window .entry))
+        (first .0) last ⌝ }
 {
     let mut progress = progress;
     let mut marks = no_load_marks();
@@ -70,7 +75,7 @@ pub fn load_cdp(
         };
     }
     let answer = loop {
-        let next = take_step(set, progress, links, fee_ids, window, first, last);
+        let next = take_step(set, progress, links, triggers, fee_ids, window, first, last);
         let next_marks = next.marks;
         marks = together(marks, next_marks);
         progress = next.progress;

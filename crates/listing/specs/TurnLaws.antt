@@ -27,7 +27,7 @@ pub room-there : (l : List ℕ) {n : ℕ} {r : Room} → r ≡ At n → RoomIn l
 room-there l e p = subst (λ (r : Room). RoomIn l r) e p
 
 -- the lines of a load end within the buffer
-pub put-within : {l : Loaded Part} {v : RdhCruSanityValidator} {at : ℕ} {r : Listed} (out links feeIds left : List ℕ)
-    → Lists l v out at r links feeIds left
+pub put-within : {l : Loaded Part} {v : RdhCruSanityValidator} {at : ℕ} {r : Listed} (out links triggers feeIds left : List ℕ)
+    → Lists l v out at r links triggers feeIds left
     → at + room ≤ length out → r .at ≤ length left
-put-within out links feeIds left lists there = omega (arith, lists .lines .next, lists .short, same-length (lists .lines))
+put-within out links triggers feeIds left lists there = omega (arith, lists .lines .next, lists .short, same-length (lists .lines))

@@ -38,6 +38,7 @@ fn list(buffer: &mut [u8], fee_ids: &mut [u16], out: &mut [u8])
     let state = State::new();
     let mut progress = state.progress;
     let mut links = state.links;
+    let mut triggers = state.triggers;
     let mut validator = listing_start::new_validator();
     let mut held = listing_window::empty();
     let mut used = 0;
@@ -54,6 +55,7 @@ fn list(buffer: &mut [u8], fee_ids: &mut [u16], out: &mut [u8])
             set,
             progress,
             &mut links,
+            &mut triggers,
             validator,
             fee_ids,
             w,

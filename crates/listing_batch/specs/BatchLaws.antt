@@ -18,7 +18,7 @@ use Rattle.text.specs.PutLaws.{respelled, sets-append}
 use Rattle.validators.specs.declared.RdhCruSanityValidator.{RdhCruSanityValidator}
 use Rattle.scan_cdp.specs.Answers.{Found, handed, passed, wants}
 use Rattle.scan_cdp.specs.Loads.{Loaded, loaded}
-use Rattle.scan_cdp.specs.Steps.{withLinks}
+use Rattle.scan_cdp.specs.Steps.{withLent}
 use Rattle.scan_cdp.specs.declared.Part.{Part}
 use Rattle.scan_cdp.specs.declared.Settings.{Settings}
 use Rattle.scan_cdp.specs.declared.Progress.{Progress}
@@ -55,10 +55,10 @@ one-at-most false = omega arith
 
 -- a reply with what the loads leave
 batches : (b : Batched) (out : List ℕ) (why : Stop) (v : RdhCruSanityValidator) (p : Progress) (at bad : ℕ)
-    → (links feeIds left text : List ℕ) → b ≡ stopped (stopOf why) v (withLinks p links) feeIds text bad
+    → (links triggers feeIds left text : List ℕ) → b ≡ stopped (stopOf why) v (withLent p links triggers) feeIds text bad
     → at ≡ length text → left ≡ sets out 0 text → length text ≤ length out
-    → Batches b out (record { stop = why; progress = p; validator = v; length = at; unsound = bad }) links feeIds left
-batches b out why v p at bad links feeIds left text is next stored within =
+    → Batches b out (record { stop = why; progress = p; validator = v; length = at; unsound = bad }) links triggers feeIds left
+batches b out why v p at bad links triggers feeIds left text is next stored within =
     let there = ap (λ (x : Batched). x .text) (sym is) in
     record {
       stop = ap (λ (x : Batched). x .stop) (sym is);
@@ -117,20 +117,22 @@ module _ {set : Settings} {v₀ : RdhCruSanityValidator} {s₀ : State} {feeIds�
 
   -- with no room there is no further load
   pub list-full : length out - at < room
-      → Batches all out₀ (record { stop = Why.Full; progress = s .progress; validator = v; length = at; unsound = bad }) (s .links) feeIds out
+      → Batches all out₀ (record { stop = Why.Full; progress = s .progress; validator = v; length = at; unsound = bad }) (s .links)
+      (s .triggers) feeIds out
   unfolding batchedFrom
   list-full short =
-      batches all out₀ Why.Full v (s .progress) at bad (s .links) feeIds out (here .text)
+      batches all out₀ Why.Full v (s .progress) at bad (s .links) (s .triggers) feeIds out (here .text)
       (here .same ∙ on _ _ (lt-ltb (length out₀) (length (here .text) + room) (omega (arith, short, at-within, here .next, same-size))))
       (here .next) (here .stored) (here .within)
 
-  module _ {r : Listed} {links′ feeIds′ left : List ℕ} (lists : Lists (loaded set s feeIds w first last) v out at r links′ feeIds′ left)
+  module _ {r : Listed} {links′ triggers′ feeIds′ left : List ℕ}
+      (lists : Lists (loaded set s feeIds w first last) v out at r links′ triggers′ feeIds′ left)
       (test : room ≤ length out - at) where
     roomy : at + room ≤ length out
     roomy = omega (arith, test, at-within)
 
     abbrev got : Loaded Part
-    got = loadOf (r .load) links′ feeIds′
+    got = loadOf (r .load) links′ triggers′ feeIds′
 
     abbrev more : List ℕ
     more = here .text ++ linesOf v (got .answer) got
@@ -149,8 +151,8 @@ module _ {set : Settings} {v₀ : RdhCruSanityValidator} {s₀ : State} {feeIds�
     -- the loads after this one
     turned : batchedFrom (suc (here .turns)) set v s feeIds (here .text) bad w first last (length out₀)
         ≡ pick (isPacket (got .answer))
-        (batchedFrom (here .turns) set (r .validator) (withLinks (r .load .progress) links′) feeIds′ more worse w first last (length out₀))
-        (stopped (answered (got .answer)) (r .validator) (withLinks (r .load .progress) links′) feeIds′ more worse)
+        (batchedFrom (here .turns) set (r .validator) (withLent (r .load .progress) links′ triggers′) feeIds′ more worse w first last (length out₀))
+        (stopped (answered (got .answer)) (r .validator) (withLent (r .load .progress) links′ triggers′) feeIds′ more worse)
     unfolding batchedFrom
     turned =
         off _ _ (le-ltb (length out₀) (length (here .text) + room) (omega (arith, here .next, same-size)))
@@ -163,9 +165,10 @@ module _ {set : Settings} {v₀ : RdhCruSanityValidator} {s₀ : State} {feeIds�
         (sym (lists .load))
         ∙ (λ i.
         pick (isPacket (got .answer))
-        (batchedFrom (here .turns) set (validator-there i) (withLinks (r .load .progress) links′) feeIds′ more (bad + unsound-there i) w first last
+        (batchedFrom (here .turns) set (validator-there i) (withLent (r .load .progress) links′ triggers′) feeIds′ more
+        (bad + unsound-there i) w first last
         (length out₀))
-        (stopped (answered (got .answer)) (validator-there i) (withLinks (r .load .progress) links′) feeIds′ more (bad + unsound-there i)))
+        (stopped (answered (got .answer)) (validator-there i) (withLent (r .load .progress) links′ triggers′) feeIds′ more (bad + unsound-there i)))
 
     lines-put : Put out at (linesOf v (got .answer) got) left (r .at)
     lines-put = respelled (ap (λ (x : Loaded Part). linesOf v (x .answer) x) (sym (lists .load))) (lists .lines)
@@ -198,9 +201,9 @@ module _ {set : Settings} {v₀ : RdhCruSanityValidator} {s₀ : State} {feeIds�
     pub list-ends : isPacket (got .answer) ≡ false
         → Batches all out₀
         (record { stop = Why.Answered (r .load .answer); progress = r .load .progress; validator = r .validator; length = r .at; unsound = worse })
-        links′ feeIds′ left
+        links′ triggers′ feeIds′ left
     list-ends stops =
-        batches all out₀ (Why.Answered (r .load .answer)) (r .validator) (r .load .progress) (r .at) worse links′ feeIds′ left more
+        batches all out₀ (Why.Answered (r .load .answer)) (r .validator) (r .load .progress) (r .at) worse links′ triggers′ feeIds′ left more
         (here .same ∙ turned ∙ off _ _ stops) next-there stored-there more-within
 
     -- a packet leads to the next turn, behind its lines
@@ -209,12 +212,12 @@ module _ {set : Settings} {v₀ : RdhCruSanityValidator} {s₀ : State} {feeIds�
         omega (arith, packet-there v (got .answer) got goes, next-there, here .next, length-more)
 
     pub list-goes-on : isPacket (got .answer) ≡ true → length feeIds′ ≡ length feeIds
-        → ListTurn set v₀ s₀ feeIds₀ w first last out₀ (r .validator) (withLinks (r .load .progress) links′) feeIds′ left (r .at) worse
+        → ListTurn set v₀ s₀ feeIds₀ w first last out₀ (r .validator) (withLent (r .load .progress) links′ triggers′) feeIds′ left (r .at) worse
     list-goes-on goes kept = further (here .turns) refl (here .same ∙ turned ∙ on _ _ goes)
       where
         further : (n : ℕ) → n ≡ here .turns
-            → all ≡ batchedFrom n set (r .validator) (withLinks (r .load .progress) links′) feeIds′ more worse w first last (length out₀)
-            → ListTurn set v₀ s₀ feeIds₀ w first last out₀ (r .validator) (withLinks (r .load .progress) links′) feeIds′ left (r .at) worse
+            → all ≡ batchedFrom n set (r .validator) (withLent (r .load .progress) links′ triggers′) feeIds′ more worse w first last (length out₀)
+            → ListTurn set v₀ s₀ feeIds₀ w first last out₀ (r .validator) (withLent (r .load .progress) links′ triggers′) feeIds′ left (r .at) worse
         further zero is same =
             absurd (omega (arith, is, here .to-come, list-moves goes, next-there, here .next, more-within))
         further (suc n) is same =

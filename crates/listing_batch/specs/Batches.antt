@@ -11,7 +11,7 @@ use Rattle.basis.specs.Refusals.{Answer, gives, refuses}
 use Rattle.validators.specs.declared.RdhCruSanityValidator.{RdhCruSanityValidator}
 use Rattle.scan_cdp.specs.Answers.{Found, handed, loadAnswer, passed, wants}
 use Rattle.scan_cdp.specs.Loads.{Loaded, loaded}
-use Rattle.scan_cdp.specs.Steps.{withLinks}
+use Rattle.scan_cdp.specs.Steps.{withLent}
 use Rattle.scan_cdp.specs.declared.Part.{Part}
 use Rattle.scan_cdp.specs.declared.Settings.{Settings}
 use Rattle.scan_cdp.specs.declared.State.{State}
@@ -79,9 +79,9 @@ stopOf (Why.Answered a) = answered (loadAnswer a)
 
 -- What the loop promises: it makes these loads and puts their lines into the buffer `out` from its start on. `r` is its reply, and `links`,
 -- `feeIds` and `left` are what it leaves of the lists and in the buffer. The text fits.
-pub record Batches (b : Batched) (out : List ℕ) (r : Batch) (links feeIds left : List ℕ) : Type 0 where
+pub record Batches (b : Batched) (out : List ℕ) (r : Batch) (links triggers feeIds left : List ℕ) : Type 0 where
   pub stop : stopOf (r .stop) ≡ b .stop
-  pub state : withLinks (r .progress) links ≡ b .state
+  pub state : withLent (r .progress) links triggers ≡ b .state
   pub fee-ids : feeIds ≡ b .feeIds
   pub validator : r .validator ≡ b .validator
   pub unsound : r .unsound ≡ b .unsound

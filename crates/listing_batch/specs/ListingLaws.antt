@@ -22,9 +22,9 @@ text-first text out left stored fits =
     let start : 0 + length text ≡ length text = omega arith in
     stored ∙ sets-eq text out 0 (omega (arith, fits)) ∙ ap (λ (n : ℕ). text ++ drop n out) start
 
-left-there : (b : Batched) (out : List ℕ) (r : Batch) (links feeIds left : List ℕ) → Batches b out r links feeIds left
-    → listingOf r links feeIds left ≡ leftBy b out
-left-there b out r links feeIds left x =
+left-there : (b : Batched) (out : List ℕ) (r : Batch) (links triggers feeIds left : List ℕ) → Batches b out r links triggers feeIds left
+    → listingOf r links triggers feeIds left ≡ leftBy b out
+left-there b out r links triggers feeIds left x =
     λ i. record {
       stop = x .stop i;
       state = x .state i;
@@ -42,9 +42,9 @@ module _ (set : Settings) (v : RdhCruSanityValidator) (s : State) (feeIds w : Li
   listed-refused short = sym (on _ _ (lt-ltb _ _ short))
 
   -- into any other the loop lists
-  pub listed-there : {r : Batch} {links feeIds′ left : List ℕ}
-      → Batches (batched set v s feeIds w first last (length out)) out r links feeIds′ left → room ≤ length out
-      → listingOf r links feeIds′ left ≡ listedInto out set v s feeIds w first last
+  pub listed-there : {r : Batch} {links triggers feeIds′ left : List ℕ}
+      → Batches (batched set v s feeIds w first last (length out)) out r links triggers feeIds′ left → room ≤ length out
+      → listingOf r links triggers feeIds′ left ≡ listedInto out set v s feeIds w first last
   unfolding listedInto
-  listed-there {r} {links} {feeIds′} {left} x long =
-      left-there (batched set v s feeIds w first last (length out)) out r links feeIds′ left x ∙ sym (off _ _ (le-ltb _ _ long))
+  listed-there {r} {links} {triggers} {feeIds′} {left} x long =
+      left-there (batched set v s feeIds w first last (length out)) out r links triggers feeIds′ left x ∙ sym (off _ _ (le-ltb _ _ long))

@@ -6,7 +6,7 @@ use lib.Dec.{ltb}
 use lib.ListN.{length, drop}
 use Rattle.basis.specs.Pick.{pick}
 use Rattle.validators.specs.declared.RdhCruSanityValidator.{RdhCruSanityValidator}
-use Rattle.scan_cdp.specs.Steps.{withLinks}
+use Rattle.scan_cdp.specs.Steps.{withLent}
 use Rattle.scan_cdp.specs.declared.Settings.{Settings}
 use Rattle.scan_cdp.specs.declared.State.{State}
 use Rattle.listing_lines.specs.Lines.{room}
@@ -23,11 +23,11 @@ pub record Listing : Type 0 where
   pub feeIds : List ℕ
   pub out : List ℕ
 
-abbrev pub listingOf : Batch → (links feeIds out : List ℕ) → Listing
-listingOf r links feeIds out =
+abbrev pub listingOf : Batch → (links triggers feeIds out : List ℕ) → Listing
+listingOf r links triggers feeIds out =
     record {
       stop = stopOf (r .stop);
-      state = withLinks (r .progress) links;
+      state = withLent (r .progress) links triggers;
       validator = r .validator;
       bytes = r .length;
       unsound = r .unsound;

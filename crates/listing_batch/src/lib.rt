@@ -2,13 +2,14 @@
 ghost use mathlib.Core.Path.{_≡_};
 ghost use lib.ListN.{length};
 ghost use Rattle.scan_cdp.specs.Answers.{loadAnswer};
-ghost use Rattle.scan_cdp.specs.Steps.{withLinks};
+ghost use Rattle.scan_cdp.specs.Steps.{withLent};
 ghost use Rattle.listing_batch.specs.Batches.{Batches, batched, isPacket};
 ghost use Rattle.listing_batch.specs.Listings.{listedInto, listingOf};
 use scan_cdp::BytePlace;
 use scan_cdp::LoadCdp;
 use scan_cdp::Progress;
 use scan_cdp::Settings;
+use trigger_stats::COUNTERS;
 use validators::RdhCruSanityValidator;
 
 // Why no further load was made: its lines might not have had the room; the buffer is shorter than listing_lines::ROOM, so that none was made at all;
@@ -35,6 +36,7 @@ pub fn list_loads(
     set: Settings,
     progress: Progress,
     links: &mut [u8; 256],
+    triggers: &mut [u32; COUNTERS],
     validator: RdhCruSanityValidator,
     fee_ids: &mut [u16],
     window: &[u8],
@@ -42,9 +44,9 @@ pub fn list_loads(
     last: bool,
     out: &mut [u8],
 ) -> Batch
-    ensures { λ r. ⌜ listingOf r (now (links .exit)) (now («fee_ids» .exit)) (now (out .exit))
-        ≡ listedInto (now (out .entry)) set validator (withLinks progress (now (links .entry))) (now («fee_ids» .entry)) (now (window .entry))
-        (first .0) last ⌝ }
+    ensures { λ r. ⌜ listingOf r (now (links .exit)) (now (triggers .exit)) (now («fee_ids» .exit)) (now (out .exit))
+        ≡ listedInto (now (out .entry)) set validator (withLent progress (now (links .entry)) (now (triggers .entry)))
+        (now («fee_ids» .entry)) (now (window .entry)) (first .0) last ⌝ }
 {
     if out.len() < listing_lines::ROOM {
         return Batch {
@@ -59,6 +61,7 @@ pub fn list_loads(
         set,
         progress,
         links,
+        triggers,
         validator,
         fee_ids,
         window,
@@ -73,6 +76,7 @@ fn put_loads(
     set: Settings,
     progress: Progress,
     links: &mut [u8; 256],
+    triggers: &mut [u32; COUNTERS],
     validator: RdhCruSanityValidator,
     fee_ids: &mut [u16],
     window: &[u8],
@@ -81,9 +85,9 @@ fn put_loads(
     out: &mut [u8],
 ) -> Batch
     ensures { λ r. ⌜ Batches
-        (batched set validator (withLinks progress (now (links .entry))) (now («fee_ids» .entry)) (now (window .entry)) (first .0) last
-        (length (now (out .entry))))
-        (now (out .entry)) r (now (links .exit)) (now («fee_ids» .exit)) (now (out .exit)) ⌝ }
+        (batched set validator (withLent progress (now (links .entry)) (now (triggers .entry))) (now («fee_ids» .entry)) (now (window .entry))
+        (first .0) last (length (now (out .entry))))
+        (now (out .entry)) r (now (links .exit)) (now (triggers .exit)) (now («fee_ids» .exit)) (now (out .exit)) ⌝ }
 {
     let mut progress = progress;
     let mut validator = validator;
@@ -94,6 +98,7 @@ fn put_loads(
             set,
             progress,
             links,
+            triggers,
             validator,
             fee_ids,
             window,

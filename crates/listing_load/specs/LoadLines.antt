@@ -46,8 +46,9 @@ unsoundIn v (refuses number values) = false
 
 -- The contract of a call that makes one load, whose answer is `l`, and puts its lines into the buffer `out` at a place: `r` is its reply, and
 -- `links`, `feeIds` and `left` are what it leaves of the lists and in the buffer.
-pub record Lists (l : Loaded Part) (v : RdhCruSanityValidator) (out : List ℕ) (at : ℕ) (r : Listed) (links feeIds left : List ℕ) : Type 0 where
-  pub load : loadOf (r .load) links feeIds ≡ l
+pub record Lists (l : Loaded Part) (v : RdhCruSanityValidator) (out : List ℕ) (at : ℕ) (r : Listed) (links triggers feeIds left : List ℕ)
+    : Type 0 where
+  pub load : loadOf (r .load) links triggers feeIds ≡ l
   pub validator : r .validator ≡ validatorOf v (l .answer)
   pub unsound : r .unsound ≡ unsoundIn v (l .answer)
   pub lines : Put out at (linesOf v (l .answer) l) left (r .at)

@@ -21,15 +21,15 @@ use Rattle.listing_load.specs.LoadLines.{Lists, linesOf, unsoundIn, vali
 use Rattle.listing_load.specs.declared.Listed.{Listed}
 
 -- a call that answers by the load's own answer
-pub lists : (l : Loaded Part) (v : RdhCruSanityValidator) (out : List ℕ) (at : ℕ) (r : Listed) (links feeIds left : List ℕ) (a : LoadCdp)
-    → loadOf (r .load) links feeIds ≡ l → r .load .answer ≡ a → r .validator ≡ validatorOf v (loadAnswer a)
+pub lists : (l : Loaded Part) (v : RdhCruSanityValidator) (out : List ℕ) (at : ℕ) (r : Listed) (links triggers feeIds left : List ℕ) (a : LoadCdp)
+    → loadOf (r .load) links triggers feeIds ≡ l → r .load .answer ≡ a → r .validator ≡ validatorOf v (loadAnswer a)
     → r .unsound ≡ unsoundIn v (loadAnswer a)
-    → Put out at (linesOf v (loadAnswer a) (loadOf (r .load) links feeIds)) left (r .at)
-    → length (linesOf v (loadAnswer a) (loadOf (r .load) links feeIds)) ≤ room → Lists l v out at r links feeIds left
-lists l v out at r links feeIds left a load is validator unsound lines short =
+    → Put out at (linesOf v (loadAnswer a) (loadOf (r .load) links triggers feeIds)) left (r .at)
+    → length (linesOf v (loadAnswer a) (loadOf (r .load) links triggers feeIds)) ≤ room → Lists l v out at r links triggers feeIds left
+lists l v out at r links triggers feeIds left a load is validator unsound lines short =
     let answer : loadAnswer a ≡ l .answer = sym (ap (λ (b : LoadCdp). loadAnswer b) is) ∙ ap (λ (m : Loaded Part). m .answer) load in
-    let same : linesOf v (loadAnswer a) (loadOf (r .load) links feeIds) ≡ linesOf v (l .answer) l =
-    ap (λ (b : Answer (Found Part)). linesOf v b (loadOf (r .load) links feeIds)) answer
+    let same : linesOf v (loadAnswer a) (loadOf (r .load) links triggers feeIds) ≡ linesOf v (l .answer) l =
+    ap (λ (b : Answer (Found Part)). linesOf v b (loadOf (r .load) links triggers feeIds)) answer
     ∙ ap (λ (m : Loaded Part). linesOf v (l .answer) m) load in
     record {
       load = load;
@@ -40,12 +40,12 @@ lists l v out at r links feeIds left a load is validator unsound lines short =
     }
 
 -- one that answers with a packet: it has put the packet's lines with a position, which is the packet's own (S12, P2)
-pub lists-packet : (l : Loaded Part) (v : RdhCruSanityValidator) (out : List ℕ) (at : ℕ) (r : Listed) (links feeIds left : List ℕ)
-    (packet : Packet) (position : ℕ) → loadOf (r .load) links feeIds ≡ l → r .load .answer ≡ Loads.Packet packet
+pub lists-packet : (l : Loaded Part) (v : RdhCruSanityValidator) (out : List ℕ) (at : ℕ) (r : Listed) (links triggers feeIds left : List ℕ)
+    (packet : Packet) (position : ℕ) → loadOf (r .load) links triggers feeIds ≡ l → r .load .answer ≡ Loads.Packet packet
     → Packs v position (packet .rdh) out at (record { validator = r .validator; at = r .at; unsound = r .unsound }) left
-    → position ≡ packet .own .0 → Lists l v out at r links feeIds left
-lists-packet l v out at r links feeIds left packet position load is packs own =
+    → position ≡ packet .own .0 → Lists l v out at r links triggers feeIds left
+lists-packet l v out at r links triggers feeIds left packet position load is packs own =
     let lines : packetLines v position (packet .rdh) ≡ packetLines v (packet .own .0) (packet .rdh) =
     ap (λ (n : ℕ). packetLines v n (packet .rdh)) own in
-    lists l v out at r links feeIds left (Loads.Packet packet) load is (packs .validator) (packs .unsound) (respelled lines (packs .lines))
+    lists l v out at r links triggers feeIds left (Loads.Packet packet) load is (packs .validator) (packs .unsound) (respelled lines (packs .lines))
     (omega (arith, ap length lines, packs .short))

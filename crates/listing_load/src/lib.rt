@@ -1,12 +1,13 @@
 // One load with what the listing says of it.
 ghost use Rattle.scan_cdp.specs.Loads.{loaded};
-ghost use Rattle.scan_cdp.specs.Steps.{withLinks};
+ghost use Rattle.scan_cdp.specs.Steps.{withLent};
 ghost use Rattle.listing_load.specs.LoadLines.{Lists};
 use input_scanner::Load;
 use scan_cdp::BytePlace;
 use scan_cdp::LoadCdp;
 use scan_cdp::Progress;
 use scan_cdp::Settings;
+use trigger_stats::COUNTERS;
 use validators::RdhCruSanityValidator;
 
 // A load, listed: its reply, the validator for the next packet, the place behind the lines, and whether it is a packet that is not sound.
@@ -22,6 +23,7 @@ pub fn list_cdp(
     set: Settings,
     progress: Progress,
     links: &mut [u8; 256],
+    triggers: &mut [u32; COUNTERS],
     validator: RdhCruSanityValidator,
     fee_ids: &mut [u16],
     window: &[u8],
@@ -31,10 +33,20 @@ pub fn list_cdp(
     at: usize,
 ) -> Listed
     ensures { λ r. ⌜ Lists
-        (loaded set (withLinks progress (now (links .entry))) (now («fee_ids» .entry)) (now (window .entry)) (first .0) last)
-        validator (now (out .entry)) at r (now (links .exit)) (now («fee_ids» .exit)) (now (out .exit)) ⌝ }
+        (loaded set (withLent progress (now (links .entry)) (now (triggers .entry))) (now («fee_ids» .entry)) (now (window .entry))
+        (first .0) last)
+        validator (now (out .entry)) at r (now (links .exit)) (now (triggers .exit)) (now («fee_ids» .exit)) (now (out .exit)) ⌝ }
 {
-    let load = input_scanner::load_cdp(set, progress, links, fee_ids, window, first, last);
+    let load = input_scanner::load_cdp(
+        set,
+        progress,
+        links,
+        triggers,
+        fee_ids,
+        window,
+        first,
+        last,
+    );
     let answer = load.answer;
     match answer {
         LoadCdp::Packet(packet) => {

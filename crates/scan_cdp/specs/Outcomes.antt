@@ -21,6 +21,9 @@ memorySize h = h .«memory_size»
 abbrev pub feeId : RdhCru → ℕ
 feeId h = h .rdh0 .«fee_id» .0
 
+abbrev pub triggerType : RdhCru → ℕ
+triggerType h = h .rdh2 .«trigger_type»
+
 -- Whether a header matches the filter (T3, S3).
 abbrev pub isMatch : Settings → RdhCru → Bool
 isMatch set h = matches (targetOf (set .filter)) (h .«link_id») (feeId h)

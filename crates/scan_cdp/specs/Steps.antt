@@ -15,8 +15,9 @@ use Rattle.serde_rdh.specs.Layout.{decoded}
 use Rattle.stats.specs.Counts.{added, fullCount}
 use Rattle.stats.specs.Lists.{full, placesAfter, twice, usedAfter}
 use Rattle.stats.specs.declared.Count.{Count}
+use Rattle.trigger_stats.specs.Counters.{counted, uncounted}
 use Rattle.scan_cdp.specs.Answers.{Found, answerAs, handed, passed}
-use Rattle.scan_cdp.specs.Outcomes.{isCounted, feeId, handsOut, matched, memorySize, offset, payloadSize, outcomeOf, skipDistance}
+use Rattle.scan_cdp.specs.Outcomes.{isCounted, feeId, handsOut, matched, memorySize, offset, payloadSize, outcomeOf, skipDistance, triggerType}
 use Rattle.scan_cdp.specs.declared.Position.{Position}
 use Rattle.scan_cdp.specs.declared.Settings.{Settings}
 use Rattle.scan_cdp.specs.declared.OpenLoad.{OpenLoad}
@@ -55,6 +56,7 @@ newState =
         «fee_ids_used» = 0;
       };
       links = replicate 256 0;
+      triggers = uncounted;
     }
 
 -- The state at another byte place, with all else as it was.
@@ -70,11 +72,12 @@ withPlace place s =
         «fee_ids_used» = s .progress .«fee_ids_used»;
       };
       links = s .links;
+      triggers = s .triggers;
     }
 
--- The state, whose links stand apart while a call goes on.
-abbrev pub withLinks : Progress → List ℕ → State
-withLinks p links = record { progress = p; links = links }
+-- The state, whose links and trigger counts stand apart while a call goes on.
+abbrev pub withLent : Progress → (links triggers : List ℕ) → State
+withLent p links triggers = record { progress = p; links = links; triggers = triggers }
 
 -- The state with no load open (S7).
 abbrev pub closed : State → State
@@ -89,6 +92,7 @@ closed s =
         «fee_ids_used» = s .progress .«fee_ids_used»;
       };
       links = s .links;
+      triggers = s .triggers;
     }
 
 -- ---- step 1
@@ -141,7 +145,7 @@ outcomeIn set p feeIds h = outcomeOf set (isFirst (p .load)) (set .stats && full
 unfoldable pub initialOf : Bool → Bool → Position → RdhCru → Initial
 initialOf stats first position h =
     pick (stats && first && eqb (position .0) 0)
-    (Report.Report (h .rdh2 .«trigger_type») (dataFormatOf (h .«dataformat_reserved0» .0)) (h .rdh0 .«system_id»))
+    (Report.Report (triggerType h) (dataFormatOf (h .«dataformat_reserved0» .0)) (h .rdh0 .«system_id»))
     Report.None
 
 -- A count that grows by n if it is to be raised.
@@ -220,7 +224,7 @@ marksOf set t p h left =
       «payload_cut» = cut (set .«skip_payload») t h left;
     }
 
--- Whether step 2 lists the link and the FEE id.
+-- Whether step 2 lists the link and the FEE id, and counts the trigger word.
 abbrev pub lists : Settings → Outcome → Progress → Bool
 lists set t p = set .stats && isCounted (isFirst (p .load)) t
 
@@ -230,6 +234,10 @@ placesListed due x used l = pick due (placesAfter x used l) l
 
 unfoldable pub usedListed : Bool → ℕ → ℕ → List ℕ → ℕ
 usedListed due x used l = pick due (usedAfter x used l) used
+
+-- The trigger counts, after a word that step 2 counts (G2).
+unfoldable pub triggersAfter : Bool → ℕ → List ℕ → List ℕ
+triggersAfter due word counts = pick due (counted counts word) counts
 
 -- How far the scan has come, with the used numbers of links and FEE ids.
 unfoldable pub progressAfter : Settings → Outcome → Progress → RdhCru → (left end linksUsed feeIdsUsed : ℕ) → Progress
@@ -257,6 +265,7 @@ entryOf set t s feeIds h rest end =
             (usedListed (lists set t p) (h .«link_id») (p .«links_used») (s .links))
             (usedListed (lists set t p) (feeId h) (p .«fee_ids_used») feeIds);
         links = placesListed (lists set t p) (h .«link_id») (p .«links_used») (s .links);
+        triggers = triggersAfter (lists set t p) (triggerType h) (s .triggers);
       };
       feeIds = placesListed (lists set t p) (feeId h) (p .«fee_ids_used») feeIds;
     }

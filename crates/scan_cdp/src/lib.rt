@@ -6,6 +6,7 @@ ghost use Rattle.scan_cdp.specs.Steps.{newState};
 use filter::FilterOpt;
 use rdh::rdh_cru::RdhCru;
 use stats::Count;
+use trigger_stats::COUNTERS;
 
 // A byte place in the recording, which the reading goes by (W2, F3).
 pub struct BytePlace(pub u64);
@@ -35,7 +36,8 @@ pub struct Counts {
     pub payload: u32,
 }
 
-// How far a scan has come: all of its state but the links. The used numbers are those of the links and of the lent FEE ids.
+// How far a scan has come: all of its state but the links and the trigger counts. The used numbers are those of the links and of the lent FEE
+// ids.
 pub struct Progress {
     pub place: BytePlace,
     pub position: Position,
@@ -49,6 +51,7 @@ pub struct Progress {
 pub struct State {
     pub progress: Progress,
     pub links: [u8; 256],
+    pub triggers: [u32; COUNTERS],
 }
 
 impl State {
@@ -70,6 +73,7 @@ impl State {
                 fee_ids_used: 0,
             },
             links: [0; 256],
+            triggers: [0; COUNTERS],
         }
     }
 }

@@ -14,8 +14,8 @@ use Rattle.serde_rdh.specs.Layout.{decoded}
 use Rattle.stats.specs.Lists.{full}
 use Rattle.scan_cdp.specs.Answers.{Found}
 use Rattle.scan_cdp.specs.Loads.{loaded}
-use Rattle.scan_cdp.specs.Outcomes.{badMemorySize, badOffset, feeId, isMatch, memorySize, offset, skipDistance}
-use Rattle.scan_cdp.specs.Steps.{Entry, closed, initialOf, isFirst, noMarks, placesListed, raised, unusable, usedListed, withPlace}
+use Rattle.scan_cdp.specs.Outcomes.{badMemorySize, badOffset, feeId, isMatch, memorySize, offset, skipDistance, triggerType}
+use Rattle.scan_cdp.specs.Steps.{Entry, closed, initialOf, isFirst, noMarks, placesListed, raised, triggersAfter, unusable, usedListed, withPlace}
 use Rattle.scan_cdp.specs.Windows.{examined, outside, shown}
 use Rattle.scan_cdp.specs.declared.Marks.{Marks}
 use Rattle.scan_cdp.specs.declared.OpenLoad.the-variants as Load
@@ -41,8 +41,9 @@ abbrev pub inTable : {P : Type 0} → Answer (Found P) → Bool
 inTable (gives found) = true
 inTable (refuses number values) = oneToFour number || eqb number 6
 
--- What refusals 2 to 4 leave: the byte place 64 further on and no load open (S7). Where the header was counted, seen is raised and its link
--- listed, and where its FEE id had place, that is; where it was taken as a match, filtered is raised. All else is as it was (R10).
+-- What refusals 2 to 4 leave: the byte place 64 further on and no load open (S7). Where the header was counted, seen is raised, its link
+-- listed and its trigger word counted, and where its FEE id had place, that is listed; where it was taken as a match, filtered is raised. All
+-- else is as it was (R10).
 abbrev pub behindHeader : (counted listed taken : Bool) → State → List ℕ → RdhCru → Left
 behindHeader counted listed taken s feeIds h =
     let p = s .progress in
@@ -61,6 +62,7 @@ behindHeader counted listed taken s feeIds h =
           «fee_ids_used» = usedListed listed (feeId h) (p .«fee_ids_used») feeIds;
         };
         links = placesListed counted (h .«link_id») (p .«links_used») (s .links);
+        triggers = triggersAfter counted (triggerType h) (s .triggers);
       };
       feeIds = placesListed listed (feeId h) (p .«fee_ids_used») feeIds;
     }
@@ -148,7 +150,7 @@ module _ (set : Settings) (s : State) (feeIds w : List ℕ) (first : ℕ) (last 
       let taken = set .stats && enabled (set .filter) in
       Row 3 when3 [] (behindHeader (set .stats) (set .stats) taken s feeIds header) (headerMarks set (set .stats) taken s header) reply
 
-  -- R4: seen and link counted; the FEE list stays as it is.
+  -- R4: seen, link and trigger word counted; the FEE list stays as it is.
   abbrev pub Row4 : Type 0
   Row4 = Row 4 when4 [] (behindHeader true false false s feeIds header) (headerMarks set true false s header) reply
 

@@ -17,8 +17,8 @@ use Rattle.stats.specs.Lists.{full, member}
 use Rattle.stats.specs.ListsLaws.{no-place}
 use Rattle.scan_cdp.specs.Answers.{answerAs}
 use Rattle.scan_cdp.specs.Loads.{Loaded, isPassed, loaded, loadedFrom}
-use Rattle.scan_cdp.specs.Outcomes.{feeId, filtered, handsOut, isCounted, isMatch, matched, memorySize, outcomeOf, payloadSize}
-use Rattle.scan_cdp.specs.Steps.{Entry, answerIn, cut, ended, entryAt, entryOf, initialOf, isFirst, loadAfter, marksOf, outcomeIn, placeAfter, placesListed, positionAfter, progressAfter, raised, tallied, usedListed}
+use Rattle.scan_cdp.specs.Outcomes.{feeId, filtered, handsOut, isCounted, isMatch, matched, memorySize, outcomeOf, payloadSize, triggerType}
+use Rattle.scan_cdp.specs.Steps.{Entry, answerIn, cut, ended, entryAt, entryOf, initialOf, isFirst, loadAfter, marksOf, outcomeIn, placeAfter, placesListed, positionAfter, progressAfter, raised, tallied, triggersAfter, usedListed}
 use Rattle.scan_cdp.specs.Windows.{examined, located, placed}
 use Rattle.scan_cdp.specs.declared.LoadMarks.{LoadMarks}
 use Rattle.scan_cdp.specs.declared.Marks.{Marks}
@@ -173,6 +173,10 @@ module _ (set : Settings) (t : Outcome) (s : State) (feeIds : List ℕ) (h : Rdh
   unpaid : (set .stats && handsOut t) ≡ false
   unpaid = ap (λ (b : Bool). set .stats && b) (halts .none) ∙ and-false (set .stats)
 
+  words-left : entryOf set t s feeIds h rest end .state .triggers ≡ behindHeader counted counted taken s feeIds h .state .triggers
+  unfolding entryOf
+  words-left = ap (λ (b : Bool). triggersAfter b (triggerType h) (s .triggers)) counts
+
   header-left : leftBy (entryOf set t s feeIds h rest end) ≡ behindHeader counted counted taken s feeIds h
   unfolding entryOf progressAfter tallied raised
   header-left =
@@ -192,6 +196,7 @@ module _ (set : Settings) (t : Outcome) (s : State) (feeIds : List ℕ) (h : Rdh
             «fee_ids_used» = usedListed (counts i) (feeId h) (p .«fee_ids_used») feeIds;
           };
           links = placesListed (counts i) (h .«link_id») (p .«links_used») (s .links);
+          triggers = words-left i;
         };
         feeIds = placesListed (counts i) (feeId h) (p .«fee_ids_used») feeIds;
       }
@@ -352,6 +357,7 @@ module _ (set : Settings) (s : State) (feeIds w : List ℕ) (first : ℕ) (last 
             «fee_ids_used» = sym (stays .number) i;
           };
           links = after .state .links;
+          triggers = after .state .triggers;
         };
         feeIds = sym (stays .places) i;
       }

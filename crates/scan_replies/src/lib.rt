@@ -16,7 +16,7 @@ use scan_cdp::Refusal;
 // The bytes that a want for a header asks for.
 pub const WANTED_HEADER: u64 = RDH_CRU_SIZE_BYTES as u64;
 
-// What the examination of one header replies. Links and FEE ids are left where they are lent.
+// What the examination of one header replies. Links, trigger counts and FEE ids are left where they are lent.
 pub struct Examination {
     pub answer: Examined,
     pub marks: Marks,

@@ -6,7 +6,7 @@ use mathlib.Core.List.{List}
 use lib.ListN.{length}
 use Rattle.rdh.specs.declared.rdh_cru.RdhCru.{RdhCru}
 use Rattle.scan_cdp.specs.Answers.{examinedAnswer}
-use Rattle.scan_cdp.specs.Steps.{Entry, answerIn, entryOf, limit, marksOf, outcomeIn, payloadOf, progressAfter, startOf, withLinks}
+use Rattle.scan_cdp.specs.Steps.{Entry, answerIn, entryOf, limit, marksOf, outcomeIn, payloadOf, progressAfter, startOf, withLent}
 use Rattle.scan_cdp.specs.Windows.{placed, replyFor}
 use Rattle.scan_cdp.specs.declared.Outcome.{Outcome}
 use Rattle.scan_cdp.specs.declared.Part.{Part}
@@ -30,9 +30,9 @@ pub record Stepped (set : Settings) (p : Progress) (t : Outcome) (h : RdhCru) (s
   pub progress : r .progress ≡ progressAfter set t p h left (p .place .0 + left) linksUsed feeIdsUsed
 
 -- The reply for a header whose outcome is not known yet: that of an examination whose step finds it.
-abbrev pub RepliesFor : Settings → Progress → (links feeIds : List ℕ) → RdhCru → (start left : ℕ) → (last : Bool) → Entry Part → Type 0
-RepliesFor set p links feeIds h start left last e =
+abbrev pub RepliesFor : Settings → Progress → (links triggers feeIds : List ℕ) → RdhCru → (start left : ℕ) → (last : Bool) → Entry Part → Type 0
+RepliesFor set p links triggers feeIds h start left last e =
     (rest : List ℕ) → length rest ≡ left
     → e
-    ≡ replyFor last (withLinks p links) feeIds h (start + 64)
-    (entryOf set (outcomeIn set p feeIds h) (withLinks p links) feeIds h rest (p .place .0 + left))
+    ≡ replyFor last (withLent p links triggers) feeIds h (start + 64)
+    (entryOf set (outcomeIn set p feeIds h) (withLent p links triggers) feeIds h rest (p .place .0 + left))

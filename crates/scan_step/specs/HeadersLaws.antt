@@ -13,8 +13,8 @@ use Rattle.basis.specs.Refusals.{gives, refuses}
 use Rattle.rdh.specs.declared.rdh_cru.RdhCru.{RdhCru}
 use Rattle.serde_rdh.specs.Layout.{decode, decoded}
 use Rattle.serde_rdh.specs.LayoutLaws.{decode-given, decode-refused}
-use Rattle.scan_cdp.specs.Outcomes.{feeId, payloadSize}
-use Rattle.scan_cdp.specs.Steps.{Entry, cut, ended, entryOf, limit, lists, marksOf, numbersUnusable, outcomeIn, placesListed, progressAfter, unchanged, usedListed, withLinks}
+use Rattle.scan_cdp.specs.Outcomes.{feeId, payloadSize, triggerType}
+use Rattle.scan_cdp.specs.Steps.{Entry, cut, ended, entryOf, limit, lists, marksOf, numbersUnusable, outcomeIn, placesListed, progressAfter, triggersAfter, unchanged, usedListed, withLent}
 use Rattle.scan_cdp.specs.Windows.{examinedUnless, located, outside, replyFor, shown, wanting}
 use Rattle.scan_cdp.specs.declared.Outcome.{Outcome}
 use Rattle.scan_cdp.specs.declared.Part.{Part}
@@ -28,7 +28,7 @@ use Rattle.scan_step.specs.Headers.{RepliesFor, Stepped}
 
 -- ---- a header
 
-module _ (set : Settings) (p : Progress) (links feeIds : List ℕ) (h : RdhCru) (start left : ℕ) (last : Bool) where
+module _ (set : Settings) (p : Progress) (links triggers feeIds : List ℕ) (h : RdhCru) (start left : ℕ) (last : Bool) where
   -- what becomes of the header
   abbrev pub outcome : Outcome
   outcome = outcomeIn set p feeIds h
@@ -39,33 +39,35 @@ module _ (set : Settings) (p : Progress) (links feeIds : List ℕ) (h : RdhCru) 
 
   -- as the entry of the header says it
   wanted-for : (rest : List ℕ) → length rest ≡ left → (end : ℕ)
-      → (not last && entryOf set outcome (withLinks p links) feeIds h rest end .marks .«payload_cut») ≡ wanted
+      → (not last && entryOf set outcome (withLent p links triggers) feeIds h rest end .marks .«payload_cut») ≡ wanted
   unfolding entryOf marksOf
   wanted-for rest size end = ap (λ (n : ℕ). not last && cut (set .«skip_payload») outcome h n) size
 
-  pub header-wanted : wanted ≡ true → RepliesFor set p links feeIds h start left last (wanting (withLinks p links) feeIds (64 + payloadSize h))
+  pub header-wanted : wanted ≡ true
+      → RepliesFor set p links triggers feeIds h start left last (wanting (withLent p links triggers) feeIds (64 + payloadSize h))
   header-wanted e rest size = sym (on _ _ (wanted-for rest size (p .place .0 + left) ∙ e))
 
-  pub header-entered : wanted ≡ false → {r : Examination} (linksUsed feeIdsUsed : ℕ) (links′ feeIds′ : List ℕ)
+  pub header-entered : wanted ≡ false → {r : Examination} (linksUsed feeIdsUsed : ℕ) (links′ triggers′ feeIds′ : List ℕ)
       → Stepped set p outcome h start left linksUsed feeIdsUsed r
       → linksUsed ≡ usedListed (lists set outcome p) (h .«link_id») (p .«links_used») links
       → links′ ≡ placesListed (lists set outcome p) (h .«link_id») (p .«links_used») links
+      → triggers′ ≡ triggersAfter (lists set outcome p) (triggerType h) triggers
       → feeIdsUsed ≡ usedListed (lists set outcome p) (feeId h) (p .«fee_ids_used») feeIds
       → feeIds′ ≡ placesListed (lists set outcome p) (feeId h) (p .«fee_ids_used») feeIds
-      → RepliesFor set p links feeIds h start left last (examinationOf r links′ feeIds′)
+      → RepliesFor set p links triggers feeIds h start left last (examinationOf r links′ triggers′ feeIds′)
   unfolding entryOf
-  header-entered e {r} linksUsed feeIdsUsed links′ feeIds′ entered used places fee-used fee-places rest size =
+  header-entered e {r} linksUsed feeIdsUsed links′ triggers′ feeIds′ entered used places raised fee-used fee-places rest size =
       there ∙ sym (off _ _ (wanted-for rest size (p .place .0 + left) ∙ e))
     where
-      there : examinationOf r links′ feeIds′
-          ≡ located (start + 64) (entryOf set outcome (withLinks p links) feeIds h rest (p .place .0 + left))
+      there : examinationOf r links′ triggers′ feeIds′
+          ≡ located (start + 64) (entryOf set outcome (withLent p links triggers) feeIds h rest (p .place .0 + left))
       there =
           λ i. record {
             answer = entered .answer rest size i;
             marks = (entered .marks ∙ ap (marksOf set outcome p h) (sym size)) i;
-            state = withLinks
+            state = withLent
                 ((entered .progress ∙ (λ j. progressAfter set outcome p h (sym size j) (p .place .0 + left) (used j) (fee-used j))) i)
-                (places i);
+                (places i) (raised i);
             feeIds = fee-places i;
           }
 
@@ -86,16 +88,16 @@ within p links feeIds e =
     let (place, position) = neither _ _ e₂ in
     record { place = ltb-false limit (p .place .0) place; position = ltb-false limit (p .position .0) position }
 
-module _ (set : Settings) (p : Progress) (links feeIds w : List ℕ) (first : ℕ) (last : Bool) where
+module _ (set : Settings) (p : Progress) (links triggers feeIds w : List ℕ) (first : ℕ) (last : Bool) where
   -- refusal 6 by the numbers alone
   abbrev pub six : Bool
   six = numbersUnusable p (length links) (length feeIds)
 
   abbrev whole : Entry Part
-  whole = examinedUnless six set (withLinks p links) feeIds w first last
+  whole = examinedUnless six set (withLent p links triggers) feeIds w first last
 
-  pub stepped-refused : (six || outside (p .place .0) first (length w)) ≡ true → whole ≡ unchanged (withLinks p links) feeIds (refuses 6 [])
-  stepped-refused = unless-6 six set (withLinks p links) feeIds w first last
+  pub stepped-refused : (six || outside (p .place .0) first (length w)) ≡ true → whole ≡ unchanged (withLent p links triggers) feeIds (refuses 6 [])
+  stepped-refused = unless-6 six set (withLent p links triggers) feeIds w first last
 
   module _ (usable : six ≡ false) (in-window : outside (p .place .0) first (length w) ≡ false)
       (start : ℕ) (begins : start ≡ min (p .place .0 - first) (length w)) where
@@ -104,16 +106,16 @@ module _ (set : Settings) (p : Progress) (links feeIds w : List ℕ) (first : �
 
     -- too few bytes to decode
     pub stepped-lacking : (number : ℕ) (values : List ℤ) → refuses number values ≡ decode (drop start w)
-        → pick last (ended (withLinks p links) feeIds (first + length w)) (wanting (withLinks p links) feeIds 64) ≡ whole
+        → pick last (ended (withLent p links triggers) feeIds (first + length w)) (wanting (withLent p links triggers) feeIds 64) ≡ whole
     stepped-lacking number values e =
         let short = subst (λ (l : List ℕ). length l < 64) here (decode-refused (drop start w) number values e) in
-        sym (unless-short six set (withLinks p links) feeIds w first last usable in-window short)
+        sym (unless-short six set (withLent p links triggers) feeIds w first last usable in-window short)
 
     -- a header that was decoded
     pub stepped-decoded : (h : RdhCru) → gives h ≡ decode (drop start w) → {e : Entry Part}
-        → RepliesFor set p links feeIds h start (length w - start) last e → e ≡ whole
+        → RepliesFor set p links triggers feeIds h start (length w - start) last e → e ≡ whole
     stepped-decoded h is {e} replies =
-        let s = withLinks p links in
+        let s = withLent p links triggers in
         let rest = shown (p .place .0) first w in
         let (long, header) = decode-given (drop start w) h is in
         let size : length rest ≡ length w - start = sym (ap (λ (l : List ℕ). length l) here) ∙ length-drop start w in

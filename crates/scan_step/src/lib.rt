@@ -1,10 +1,12 @@
-// One examination, on the links and FEE ids where they stand. Whether a link is listed twice is not asked here: a load asks it once.
+// One examination, on the links, trigger counts and FEE ids where they stand. Whether a link is listed twice is not asked here: a load asks it
+// once.
 ghost use mathlib.Core.Path.{_≡_};
 ghost use lib.ListN.{length};
-ghost use Rattle.scan_cdp.specs.Steps.{numbersUnusable, withLinks};
+ghost use Rattle.scan_cdp.specs.Steps.{numbersUnusable, withLent};
 ghost use Rattle.scan_cdp.specs.Windows.{examinedUnless};
 ghost use Rattle.scan_replies.specs.Examinations.{examinationOf};
 ghost use Rattle.scan_step.specs.Headers.{HeaderHere, RepliesFor, Stepped};
+use crate::triggers::count_trigger;
 use rdh::rdh_cru::RDH_CRU_SIZE_BYTES;
 use rdh::rdh_cru::RdhCru;
 use scan_cdp::BytePlace;
@@ -26,21 +28,25 @@ use scan_window::numbers_unusable;
 use scan_window::outside;
 use scan_window::start_in;
 use serde_rdh::FromBuf;
+use trigger_stats::COUNTERS;
 
-// Examines the header at the byte place, on links and FEE ids where they stand, with refusal 6 by the numbers alone. The caller has asked
-// whether a link is listed twice; a step leaves that as it was.
+mod triggers;
+
+// Examines the header at the byte place, on links, trigger counts and FEE ids where they stand, with refusal 6 by the numbers alone. The caller
+// has asked whether a link is listed twice; a step leaves that as it was.
 pub fn take_step(
     set: Settings,
     progress: Progress,
     links: &mut [u8],
+    triggers: &mut [u32; COUNTERS],
     fee_ids: &mut [u16],
     window: &[u8],
     first: BytePlace,
     last: bool,
 ) -> Examination
-    ensures { λ r. ⌜ examinationOf r (now (links .exit)) (now («fee_ids» .exit))
+    ensures { λ r. ⌜ examinationOf r (now (links .exit)) (now (triggers .exit)) (now («fee_ids» .exit))
         ≡ examinedUnless (numbersUnusable progress (length (now (links .entry))) (length (now («fee_ids» .entry)))) set
-        (withLinks progress (now (links .entry))) (now («fee_ids» .entry)) (now (window .entry)) (first .0) last ⌝ }
+        (withLent progress (now (links .entry)) (now (triggers .entry))) (now («fee_ids» .entry)) (now (window .entry)) (first .0) last ⌝ }
 {
     let place = progress.place;
     if numbers_unusable(progress, links.len(), fee_ids.len()) {
@@ -56,6 +62,7 @@ pub fn take_step(
             set,
             progress,
             links,
+            triggers,
             fee_ids,
             rdh,
             start,
@@ -71,6 +78,7 @@ fn header_step(
     set: Settings,
     progress: Progress,
     links: &mut [u8],
+    triggers: &mut [u32; COUNTERS],
     fee_ids: &mut [u16],
     rdh: RdhCru,
     start: usize,
@@ -78,22 +86,22 @@ fn header_step(
     last: bool,
 ) -> Examination
     requires { ⌜ HeaderHere progress start left ⌝ }
-    ensures { λ r. ⌜ RepliesFor set progress (now (links .entry)) (now («fee_ids» .entry)) rdh start left last
-        (examinationOf r (now (links .exit)) (now («fee_ids» .exit))) ⌝ }
+    ensures { λ r. ⌜ RepliesFor set progress (now (links .entry)) (now (triggers .entry)) (now («fee_ids» .entry)) rdh start left last
+        (examinationOf r (now (links .exit)) (now (triggers .exit)) (now («fee_ids» .exit))) ⌝ }
 {
-    let place = progress.place;
     let load = progress.load;
     let first = outcome::is_first(load);
-    let fee_id = rdh.rdh0.fee_id.0;
-    let full = set.stats & stats::fee_ids_full(fee_ids, progress.fee_ids_used, fee_id);
+    let full = set.stats & stats::fee_ids_full(fee_ids, progress.fee_ids_used, rdh.rdh0.fee_id.0);
     let outcome = outcome::outcome_of(set, first, full, rdh);
     if !last & outcome_payload::is_cut(set.skip_payload, outcome, rdh, left) {
         let size = WANTED_HEADER + rdh.payload_size() as u64;
-        return unchanged(progress, LoadCdp::Want(place, size));
+        return unchanged(progress, LoadCdp::Want(BytePlace(progress.place.0), size));
     }
-    let due = set.stats & outcome::is_counted(first, outcome);
+    let counted = outcome::is_counted(first, outcome);
+    let due = set.stats & counted;
     let links_used = list_link(due, links, progress.links_used, rdh.link_id);
-    let fee_ids_used = list_fee_id(due, fee_ids, progress.fee_ids_used, fee_id);
+    let fee_ids_used = list_fee_id(due, fee_ids, progress.fee_ids_used, rdh.rdh0.fee_id.0);
+    count_trigger(due, triggers, rdh.rdh2.trigger_type);
     stepped(
         set,
         progress,

@@ -8,28 +8,28 @@ use lib.Dec.{ltb}
 use lib.ListN.{length, take}
 use Rattle.basis.specs.PickLaws.{neither}
 use Rattle.stats.specs.Lists.{twice}
-use Rattle.scan_cdp.specs.Steps.{limit, numbersUnusable, unusable, withLinks}
+use Rattle.scan_cdp.specs.Steps.{limit, numbersUnusable, unusable, withLent}
 use Rattle.scan_cdp.specs.Windows.{examined, examinedUnless, outside}
 use Rattle.scan_cdp.specs.declared.Progress.{Progress}
 use Rattle.scan_cdp.specs.declared.Settings.{Settings}
 use Rattle.scan_cdp.specs.declared.State.{State}
 
 -- That no link is listed twice leaves the numbers of refusal 6.
-pub numbers-alone : (p : Progress) (links feeIds : List ℕ) → twice (take (p .«links_used») links) ≡ false
-    → unusable (withLinks p links) feeIds ≡ numbersUnusable p (length links) (length feeIds)
+pub numbers-alone : (p : Progress) (links triggers feeIds : List ℕ) → twice (take (p .«links_used») links) ≡ false
+    → unusable (withLent p links triggers) feeIds ≡ numbersUnusable p (length links) (length feeIds)
 unfolding unusable
-numbers-alone p links feeIds once =
+numbers-alone p links triggers feeIds once =
     let numbers = numbersUnusable p (length links) (length feeIds) in
     ap (λ (b : Bool). numbers || b) once ∙ or-false numbers
 
 -- Where no link is listed twice, an examination is one with refusal 6 by the numbers.
-pub once-examined : (set : Settings) (p : Progress) (links feeIds w : List ℕ) (first : ℕ) (last : Bool)
+pub once-examined : (set : Settings) (p : Progress) (links triggers feeIds w : List ℕ) (first : ℕ) (last : Bool)
     → twice (take (p .«links_used») links) ≡ false
-    → examinedUnless (numbersUnusable p (length links) (length feeIds)) set (withLinks p links) feeIds w first last
-    ≡ examined set (withLinks p links) feeIds w first last
+    → examinedUnless (numbersUnusable p (length links) (length feeIds)) set (withLent p links triggers) feeIds w first last
+    ≡ examined set (withLent p links triggers) feeIds w first last
 unfolding examined
-once-examined set p links feeIds w first last once =
-    ap (λ (b : Bool). examinedUnless b set (withLinks p links) feeIds w first last) (sym (numbers-alone p links feeIds once))
+once-examined set p links triggers feeIds w first last once =
+    ap (λ (b : Bool). examinedUnless b set (withLent p links triggers) feeIds w first last) (sym (numbers-alone p links triggers feeIds once))
 
 -- A link that is listed twice is refusal 6.
 pub twice-unusable : (s : State) (feeIds : List ℕ) → twice (take (s .progress .«links_used») (s .links)) ≡ true → unusable s feeIds ≡ true

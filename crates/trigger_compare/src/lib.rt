@@ -1,7 +1,6 @@
 // The comparison of two trigger statistics.
 use text::Written;
 use trigger_stats::COUNTERS;
-use trigger_stats::TriggerStats;
 ghost use Prim.Native.Nat.{_<_};
 ghost use Rattle.text.specs.Ascii.{ascii};
 ghost use Rattle.text.specs.Put.{Put};
@@ -61,39 +60,42 @@ const NAME_LENGTHS: [usize; COUNTERS] = [
     3,
 ];
 
-// Writes a line for each count that differs from that of `other`, which is the expected one, in the order of the fields. Equal
-// statistics give the empty text, which fits any buffer.
-pub fn validate_other(stats: TriggerStats, other: TriggerStats, out: &mut [u8]) -> Written
-    ensures { λ r. ⌜ Writes (mismatchText stats other) (now (out .entry)) r (now (out .exit)) ⌝ }
+// Writes a line for each count that differs from the expected one, in the order of the fields. Equal statistics give the empty text, which fits
+// any buffer.
+pub fn validate_other(counts: [u32; COUNTERS], expected: [u32; COUNTERS], out: &mut [u8]) -> Written
+    ensures { λ r. ⌜ Writes (mismatchText counts expected) (now (out .entry)) r (now (out .exit)) ⌝ }
 {
-    let need = needed(stats, other, out.len());
+    let need = needed(counts, expected, out.len());
     if out.len() < need {
         return Written::TooShort(need);
     }
-    Written::Text(put_mismatches(stats, other, out, 0))
+    Written::Text(put_mismatches(counts, expected, out, 0))
 }
 
 // The length that the comparison needs, or 0 where any comparison fits the room.
-fn needed(stats: TriggerStats, other: TriggerStats, room: usize) -> usize
-    ensures { λ r. ⌜ Needed (mismatchText stats other) room r ⌝ }
+fn needed(counts: [u32; COUNTERS], expected: [u32; COUNTERS], room: usize) -> usize
+    ensures { λ r. ⌜ Needed (mismatchText counts expected) room r ⌝ }
 {
     if LONGEST_COMPARISON <= room {
         return 0;
     }
     let mut none = [0u8; 0];
-    put_mismatches(stats, other, &mut none, 0)
+    put_mismatches(counts, expected, &mut none, 0)
 }
 
 // The lines of a comparison, in the order of the fields.
-fn put_mismatches(stats: TriggerStats, other: TriggerStats, out: &mut [u8], at: usize) -> usize
-    ensures { λ r. ⌜ Put (now (out .entry)) at (mismatchText stats other) (now (out .exit)) r ⌝ }
+fn put_mismatches(
+    counts: [u32; COUNTERS],
+    expected: [u32; COUNTERS],
+    out: &mut [u8],
+    at: usize,
+) -> usize
+    ensures { λ r. ⌜ Put (now (out .entry)) at (mismatchText counts expected) (now (out .exit)) r ⌝ }
 {
-    let got = stats.counts();
-    let expected = other.counts();
     let mut next = at;
     let mut field = 0;
     while field < COUNTERS {
-        next = put_mismatch(out, next, field, expected[field], got[field]);
+        next = put_mismatch(out, next, field, expected[field], counts[field]);
         field += 1;
     }
     next

@@ -1,7 +1,6 @@
 // The text of trigger statistics: the list of the counts.
 use text::Written;
 use trigger_stats::COUNTERS;
-use trigger_stats::TriggerStats;
 ghost use Prim.Native.Nat.{_<_};
 ghost use Rattle.text.specs.Ascii.{ascii};
 ghost use Rattle.text.specs.Put.{Put};
@@ -39,32 +38,31 @@ const LABELS: [u8; 240] = *b"\
     \x20 TOF:      ";
 
 // Writes the list of all counts at the start of `out`.
-pub fn display(stats: TriggerStats, out: &mut [u8]) -> Written
-    ensures { λ r. ⌜ Writes (listText stats) (now (out .entry)) r (now (out .exit)) ⌝ }
+pub fn display(counts: [u32; COUNTERS], out: &mut [u8]) -> Written
+    ensures { λ r. ⌜ Writes (listText counts) (now (out .entry)) r (now (out .exit)) ⌝ }
 {
-    let need = needed(stats, out.len());
+    let need = needed(counts, out.len());
     if out.len() < need {
         return Written::TooShort(need);
     }
-    Written::Text(put_list(stats, out, 0))
+    Written::Text(put_list(counts, out, 0))
 }
 
 // The length that the list needs, or 0 where any list fits the room.
-fn needed(stats: TriggerStats, room: usize) -> usize
-    ensures { λ r. ⌜ Needed (listText stats) room r ⌝ }
+fn needed(counts: [u32; COUNTERS], room: usize) -> usize
+    ensures { λ r. ⌜ Needed (listText counts) room r ⌝ }
 {
     if LONGEST_LIST <= room {
         return 0;
     }
     let mut none = [0u8; 0];
-    put_list(stats, &mut none, 0)
+    put_list(counts, &mut none, 0)
 }
 
 // The title and a line for each counter.
-fn put_list(stats: TriggerStats, out: &mut [u8], at: usize) -> usize
-    ensures { λ r. ⌜ Put (now (out .entry)) at (listText stats) (now (out .exit)) r ⌝ }
+fn put_list(counts: [u32; COUNTERS], out: &mut [u8], at: usize) -> usize
+    ensures { λ r. ⌜ Put (now (out .entry)) at (listText counts) (now (out .exit)) r ⌝ }
 {
-    let counts = stats.counts();
     let mut next = text::put_bytes(out, at, b"Trigger statistics:\n");
     let mut k = 0;
     while k < COUNTERS {

@@ -1,34 +1,23 @@
--- The counts of trigger statistics that the code holds are numbers of 32 bits: what owning them tells.
-use mathlib.Core.List.{List}
+-- The counts that the code holds are numbers of 32 bits: what owning an array of them tells.
+use Prim.Native.Nat.{ℕ, zero, suc, _^_, _<_}
+use mathlib.Core.List.{List, [], _∷_}
 use native.Mathlib.Omega.{arith}
+use lib.ListN.{getD}
+use mir.Syntax.{w32}
 use mir.Val.{Val}
+use borrow.Table.Referent.{fInt, rtF}
+use denote.Array.{Array, each}
 use denote.Laws.{Is}
-use denote.Struct
-use Rattle.trigger_stats.specs.declared.TriggerStats.{TriggerStats}
-use Rattle.trigger_stats.specs.Counters.{InRange, count}
-use Rattle.trigger_stats.specs.Counters.{orbit, hb, hbr, hc, pht, pp, cal, sot, eot, soc, eoc, tf, fe-rst, rt, rs}
-use Rattle.trigger_stats.specs.Counters.{lhc-gap1, lhc-gap2, tpc-sync, tpc-rst, tof}
-use Rattle.trigger_stats.proofs.TriggerStats.{the-type}
+use denote.Shadow.{shadow}
+use Rattle.trigger_stats.specs.Counters.{InRange, count, placeOf}
 
-pub in-range : (s : TriggerStats) (vs : List Val) → Is (denote.Struct.Declared.row the-type) s vs → InRange s
+-- each element is one
+below : (xs : List ℕ) (us : List Val) → shadow (each ℕ (rtF (fInt w32) .own) xs us) → (i : ℕ) → getD xs i 0 < 2 ^ 32
+below [] us owned i = omega arith
+below (x ∷ xs) [] owned i = absurd owned
+below (x ∷ xs) (u ∷ us) owned zero = omega arith
+below (x ∷ xs) (u ∷ us) owned (suc i) = below xs us (owned .1) i
+
+pub in-range : (counts : List ℕ) (vs : List Val) → Is (Array (rtF (fInt w32)) 20) counts vs → InRange counts
 unfolding count
-in-range s vs is orbit = omega arith
-in-range s vs is hb = omega arith
-in-range s vs is hbr = omega arith
-in-range s vs is hc = omega arith
-in-range s vs is pht = omega arith
-in-range s vs is pp = omega arith
-in-range s vs is cal = omega arith
-in-range s vs is sot = omega arith
-in-range s vs is eot = omega arith
-in-range s vs is soc = omega arith
-in-range s vs is eoc = omega arith
-in-range s vs is tf = omega arith
-in-range s vs is fe-rst = omega arith
-in-range s vs is rt = omega arith
-in-range s vs is rs = omega arith
-in-range s vs is lhc-gap1 = omega arith
-in-range s vs is lhc-gap2 = omega arith
-in-range s vs is tpc-sync = omega arith
-in-range s vs is tpc-rst = omega arith
-in-range s vs is tof = omega arith
+in-range counts vs is k = below counts (is .0) (is .1 .1) (placeOf k)

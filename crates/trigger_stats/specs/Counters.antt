@@ -1,9 +1,8 @@
 -- The 20 trigger counts as a table, and what a trigger word does to them (G1, G2).
-use mathlib.Core.List.{List, [], _∷_}
+use mathlib.Core.List.{List, [], _∷_, map}
 use Prim.Native.Nat.{ℕ, _+_, _%_, _^_, _<_}
-use lib.ListN.{getD}
+use lib.ListN.{getD, replicate}
 use Rattle.basis.specs.Bits.{bits}
-use Rattle.trigger_stats.specs.declared.TriggerStats.{TriggerStats}
 
 -- The counters, in the order of the Rust's fields.
 pub data Counter : Type 0 where
@@ -61,67 +60,45 @@ bitOf tpc-sync = 29
 bitOf tpc-rst = 30
 bitOf tof = 31
 
--- The number that a counter has in the statistics.
-unfoldable pub count : Counter → TriggerStats → ℕ
-count orbit s = s .orbit
-count hb s = s .hb
-count hbr s = s .hbr
-count hc s = s .hc
-count pht s = s .pht
-count pp s = s .pp
-count cal s = s .cal
-count sot s = s .sot
-count eot s = s .eot
-count soc s = s .soc
-count eoc s = s .eoc
-count tf s = s .tf
-count fe-rst s = s .«fe_rst»
-count rt s = s .rt
-count rs s = s .rs
-count lhc-gap1 s = s .«lhc_gap1»
-count lhc-gap2 s = s .«lhc_gap2»
-count tpc-sync s = s .«tpc_sync»
-count tpc-rst s = s .«tpc_rst»
-count tof s = s .tof
+-- The place of each one's count in a list of 20.
+unfoldable pub placeOf : Counter → ℕ
+placeOf orbit = 0
+placeOf hb = 1
+placeOf hbr = 2
+placeOf hc = 3
+placeOf pht = 4
+placeOf pp = 5
+placeOf cal = 6
+placeOf sot = 7
+placeOf eot = 8
+placeOf soc = 9
+placeOf eoc = 10
+placeOf tf = 11
+placeOf fe-rst = 12
+placeOf rt = 13
+placeOf rs = 14
+placeOf lhc-gap1 = 15
+placeOf lhc-gap2 = 16
+placeOf tpc-sync = 17
+placeOf tpc-rst = 18
+placeOf tof = 19
 
--- The statistics that have a given number in each counter.
-unfoldable pub stats : (Counter → ℕ) → TriggerStats
-stats n =
-    record {
-      orbit = n orbit;
-      hb = n hb;
-      hbr = n hbr;
-      hc = n hc;
-      pht = n pht;
-      pp = n pp;
-      cal = n cal;
-      sot = n sot;
-      eot = n eot;
-      soc = n soc;
-      eoc = n eoc;
-      tf = n tf;
-      «fe_rst» = n fe-rst;
-      rt = n rt;
-      rs = n rs;
-      «lhc_gap1» = n lhc-gap1;
-      «lhc_gap2» = n lhc-gap2;
-      «tpc_sync» = n tpc-sync;
-      «tpc_rst» = n tpc-rst;
-      tof = n tof;
-    }
+-- A counter's count.
+unfoldable pub count : Counter → List ℕ → ℕ
+count k counts = getD counts (placeOf k) 0
 
--- Statistics of no words.
-unfoldable pub uncounted : TriggerStats
-uncounted = stats (λ k. 0)
+-- Counts of no words.
+abbrev pub uncounted : List ℕ
+uncounted = replicate 20 0
 
 -- What one trigger word does: each counter whose bit the word has goes up by 1, modulo 2^32 (G2).
-unfoldable pub counted : TriggerStats → ℕ → TriggerStats
-counted s word = stats (λ k. (count k s + bits (bitOf k) (bitOf k) word) % 2 ^ 32)
+unfoldable pub counted : List ℕ → ℕ → List ℕ
+counted counts word = map (λ k. (count k counts + bits (bitOf k) (bitOf k) word) % 2 ^ 32) counters
 
 -- What trigger words do, one after the other.
-unfoldable pub collected : TriggerStats → List ℕ → TriggerStats
-collected s [] = s
-collected s (word ∷ words) = collected (counted s word) words
+unfoldable pub collected : List ℕ → List ℕ → List ℕ
+collected counts [] = counts
+collected counts (word ∷ words) = collected (counted counts word) words
 
 -- How many words have a bit (G2).
 unfoldable pub withBit : ℕ → List ℕ → ℕ
@@ -129,5 +106,5 @@ withBit bit [] = 0
 withBit bit (word ∷ words) = bits bit bit word + withBit bit words
 
 -- Every count is a number of 32 bits, as in each value of the code.
-abbrev pub InRange : TriggerStats → Type 0
-InRange s = (k : Counter) → count k s < 2 ^ 32
+abbrev pub InRange : List ℕ → Type 0
+InRange counts = (k : Counter) → count k counts < 2 ^ 32

@@ -1,100 +1,116 @@
--- Laws of the counts: statistics are the same where their counts are, and every count is the number of words with its bit.
+-- Laws of the counts: each has its place, and is the number of words with its bit.
 use mathlib.Core.Path.{_≡_, refl, ap, sym, _∙_}
-use mathlib.Core.List.{List, [], _∷_}
-use Prim.Native.Nat.{ℕ, _+_, _%_, _^_, _<_}
-use native.Mathlib.Numerals.{add-one}
+use mathlib.Core.List.{List, [], _∷_, _++_, map}
+use Prim.Native.Nat.{ℕ, zero, suc, _+_, _%_, _^_, _<_}
+use native.Mathlib.Nat.{le-of-suc-le-suc}
 use native.Mathlib.Omega.{arith}
-use lib.ListN.{drop, getD, length}
-use lib.Seq.{drop-cons}
+use lib.ListN.{getD, length}
+use lib.Seq.{ext-getD}
 use Rattle.basis.specs.Bits.{bits}
-use Rattle.trigger_stats.specs.declared.TriggerStats.{TriggerStats}
-use Rattle.trigger_stats.specs.Counters.{Counter, bitOf, count, stats, counted, collected, uncounted, withBit}
+use Rattle.trigger_stats.specs.Counters.{Counter, bitOf, collected, count, counted, counterAt, counters, placeOf, uncounted, withBit}
 use Rattle.trigger_stats.specs.Counters.{orbit, hb, hbr, hc, pht, pp, cal, sot, eot, soc, eoc, tf, fe-rst, rt, rs}
 use Rattle.trigger_stats.specs.Counters.{lhc-gap1, lhc-gap2, tpc-sync, tpc-rst, tof}
 
--- Statistics that are all zeros have counted nothing, so that C needs no function to begin with.
-abbrev pub zeros : TriggerStats
-zeros =
-    record {
-      orbit = 0;
-      hb = 0;
-      hbr = 0;
-      hc = 0;
-      pht = 0;
-      pp = 0;
-      cal = 0;
-      sot = 0;
-      eot = 0;
-      soc = 0;
-      eoc = 0;
-      tf = 0;
-      «fe_rst» = 0;
-      rt = 0;
-      rs = 0;
-      «lhc_gap1» = 0;
-      «lhc_gap2» = 0;
-      «tpc_sync» = 0;
-      «tpc_rst» = 0;
-      tof = 0;
-    }
+-- ---- places
 
-pub zeros-are-none : zeros ≡ uncounted
-unfolding uncounted stats
-zeros-are-none = refl
+-- The counters' places are in their order, from a first one on.
+abbrev Placed : ℕ → List Counter → Type 0
+Placed first [] = Unit {0}
+Placed first (k ∷ ks) = (placeOf k ≡ first) × Placed (first + 1) ks
 
--- statistics with equal counts are the same
-pub same-counts : (s t : TriggerStats) → ((k : Counter) → count k s ≡ count k t) → s ≡ t
-unfolding count stats
-same-counts s t e = λ i. stats (λ k. e k i)
+placed : Placed 0 counters
+unfolding placeOf
+placed = omega arith
 
-count-stats : (n : Counter → ℕ) (k : Counter) → count k (stats n) ≡ n k
-unfolding count stats
-count-stats n orbit = refl
-count-stats n hb = refl
-count-stats n hbr = refl
-count-stats n hc = refl
-count-stats n pht = refl
-count-stats n pp = refl
-count-stats n cal = refl
-count-stats n sot = refl
-count-stats n eot = refl
-count-stats n soc = refl
-count-stats n eoc = refl
-count-stats n tf = refl
-count-stats n fe-rst = refl
-count-stats n rt = refl
-count-stats n rs = refl
-count-stats n lhc-gap1 = refl
-count-stats n lhc-gap2 = refl
-count-stats n tpc-sync = refl
-count-stats n tpc-rst = refl
-count-stats n tof = refl
+place-in : (first : ℕ) (ks : List Counter) → Placed first ks → (place : ℕ) → place < length ks → placeOf (getD ks place orbit) ≡ first + place
+place-in first [] are place below = absurd (omega arith)
+place-in first (k ∷ ks) (is, are) zero below = omega (arith, is)
+place-in first (k ∷ ks) (is, are) (suc place) below = omega (arith, place-in (first + 1) ks are place (le-of-suc-le-suc below))
 
-pub count-counted : (s : TriggerStats) (word : ℕ) (k : Counter)
-    → count k (counted s word) ≡ (count k s + bits (bitOf k) (bitOf k) word) % 2 ^ 32
+-- the counter at a place has its count there
+pub count-at : (place : ℕ) → place < 20 → (counts : List ℕ) → count (counterAt place) counts ≡ getD counts place 0
+unfolding count
+count-at place below counts =
+    let there : placeOf (counterAt place) ≡ place = omega (arith, place-in 0 counters placed place below) in
+    ap (λ (n : ℕ). getD counts n 0) there
+
+-- a number for each counter, at its place
+number-in : (n : Counter → ℕ) (ks : List Counter) (place : ℕ) → place < length ks → getD (map n ks) place 0 ≡ n (getD ks place orbit)
+number-in n [] place below = absurd (omega arith)
+number-in n (k ∷ ks) zero below = refl
+number-in n (k ∷ ks) (suc place) below = number-in n ks place (le-of-suc-le-suc below)
+
+pub number-at : (n : Counter → ℕ) (place : ℕ) → place < 20 → getD (map n counters) place 0 ≡ n (counterAt place)
+number-at n place below = number-in n counters place below
+
+-- counts that are equal, counter by counter, are the same
+pub same-counts : (s t : List ℕ) → length s ≡ 20 → length t ≡ 20 → ((k : Counter) → count k s ≡ count k t) → s ≡ t
+same-counts s t is-20 also-20 e =
+    ext-getD 0 s t (is-20 ∙ sym also-20) (λ place below.
+    let inside : place < 20 = omega (arith, below, is-20) in
+    sym (count-at place inside s) ∙ e (counterAt place) ∙ count-at place inside t)
+
+-- ---- counting
+
+-- a counter's count is the number that is made for it
+count-of : (n : Counter → ℕ) (k : Counter) → count k (map n counters) ≡ n k
+unfolding count placeOf
+count-of n orbit = refl
+count-of n hb = refl
+count-of n hbr = refl
+count-of n hc = refl
+count-of n pht = refl
+count-of n pp = refl
+count-of n cal = refl
+count-of n sot = refl
+count-of n eot = refl
+count-of n soc = refl
+count-of n eoc = refl
+count-of n tf = refl
+count-of n fe-rst = refl
+count-of n rt = refl
+count-of n rs = refl
+count-of n lhc-gap1 = refl
+count-of n lhc-gap2 = refl
+count-of n tpc-sync = refl
+count-of n tpc-rst = refl
+count-of n tof = refl
+
+pub count-counted : (counts : List ℕ) (word : ℕ) (k : Counter)
+    → count k (counted counts word) ≡ (count k counts + bits (bitOf k) (bitOf k) word) % 2 ^ 32
 unfolding counted
-count-counted s word k = count-stats _ k
+count-counted counts word k = count-of (λ j. (count j counts + bits (bitOf j) (bitOf j) word) % 2 ^ 32) k
 
--- to count the words from a place on is to count the one there, and then those behind it
-pub collected-at : (s : TriggerStats) (words : List ℕ) (i : ℕ) → i < length words
-    → collected s (drop i words) ≡ collected (counted s (getD words i 0)) (drop (i + 1) words)
+pub length-counted : (counts : List ℕ) (word : ℕ) → length (counted counts word) ≡ 20
+unfolding counted
+length-counted counts word = refl
+
+-- the number that is counted at a place
+pub counted-at : (counts : List ℕ) (word place : ℕ) → place < 20
+    → getD (counted counts word) place 0 ≡ (getD counts place 0 + bits (bitOf (counterAt place)) (bitOf (counterAt place)) word) % 2 ^ 32
+unfolding counted
+counted-at counts word place below =
+    let bit = bitOf (counterAt place) in
+    number-at (λ k. (count k counts + bits (bitOf k) (bitOf k) word) % 2 ^ 32) place below
+    ∙ ap (λ (n : ℕ). (n + bits bit bit word) % 2 ^ 32) (count-at place below counts)
+
+-- words are counted one list after the other
+pub collected-both : (counts words others : List ℕ) → collected counts (words ++ others) ≡ collected (collected counts words) others
 unfolding collected
-collected-at s words i below =
-    ap (collected s) (drop-cons words i 0 below)
-    ∙ ap (λ (k : ℕ). collected (counted s (getD words i 0)) (drop k words)) (sym (add-one i))
+collected-both counts [] others = refl
+collected-both counts (word ∷ words) others = collected-both (counted counts word) words others
 
 -- each count grows by the number of words that have its bit, modulo 2^32, from any start (G2)
-pub counts-words : (k : Counter) (s : TriggerStats) (words : List ℕ) → count k s < 2 ^ 32
-    → count k (collected s words) ≡ (count k s + withBit (bitOf k) words) % 2 ^ 32
+pub counts-words : (k : Counter) (counts words : List ℕ) → count k counts < 2 ^ 32
+    → count k (collected counts words) ≡ (count k counts + withBit (bitOf k) words) % 2 ^ 32
 unfolding collected withBit
-counts-words k s [] small = omega arith
-counts-words k s (word ∷ words) small =
-    let now = count-counted s word k in
-    omega (arith, counts-words k (counted s word) words (omega arith))
+counts-words k counts [] small = omega arith
+counts-words k counts (word ∷ words) small =
+    let now = count-counted counts word k in
+    omega (arith, counts-words k (counted counts word) words (omega arith))
 
 -- from no words, it is just that
 pub counts-all-words : (k : Counter) (words : List ℕ) → count k (collected uncounted words) ≡ withBit (bitOf k) words % 2 ^ 32
-unfolding uncounted
 counts-all-words k words =
-    let none = count-stats (λ j. 0) k in
+    let none = count-of (λ j. 0) k in
     omega (arith, counts-words k uncounted words (omega arith))

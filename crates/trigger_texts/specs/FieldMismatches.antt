@@ -5,7 +5,6 @@ use mathlib.Core.List.{List, []}
 use lib.Dec.{eqb}
 use Rattle.basis.specs.Pick.{pick}
 use Rattle.text.specs.Ascii.{ascii}
-use Rattle.trigger_stats.specs.declared.TriggerStats.{TriggerStats}
 use Rattle.trigger_stats.specs.Counters.{Counter, count}
 use Rattle.trigger_texts.specs.Mismatches.{mismatchOf, name}
 
@@ -14,5 +13,5 @@ unfoldable pub mismatchIfAny : List ℕ → ℕ → ℕ → List ℕ
 mismatchIfAny field expected got = pick (eqb got expected) [] (mismatchOf field expected got)
 
 -- What is put for a counter of two statistics.
-abbrev pub counterMismatch : TriggerStats → TriggerStats → Counter → List ℕ
+abbrev pub counterMismatch : List ℕ → List ℕ → Counter → List ℕ
 counterMismatch self other k = mismatchIfAny (ascii (name k)) (count k other) (count k self)

@@ -6,7 +6,6 @@ use lib.Dec.{eqb}
 use Rattle.basis.specs.Pick.{pick}
 use Rattle.text.specs.Ascii.{ascii}
 use Rattle.text_numbers.specs.Numerals.{decimal}
-use Rattle.trigger_stats.specs.declared.TriggerStats.{TriggerStats}
 use Rattle.trigger_stats.specs.Counters.{Counter, count, counters}
 use Rattle.trigger_stats.specs.Counters.{orbit, hb, hbr, hc, pht, pp, cal, sot, eot, soc, eoc, tf, fe-rst, rt, rs}
 use Rattle.trigger_stats.specs.Counters.{lhc-gap1, lhc-gap2, tpc-sync, tpc-rst, tof}
@@ -41,15 +40,15 @@ mismatchOf field expected got =
     field ++ ascii " mismatch! expected: " ++ decimal expected ++ ascii ", got: " ++ decimal got ++ ascii "\n"
 
 -- A counter's line in the comparison of `self` with `other`: the other's count is expected (G4).
-unfoldable pub mismatch : TriggerStats → TriggerStats → Counter → List ℕ
+unfoldable pub mismatch : List ℕ → List ℕ → Counter → List ℕ
 mismatch self other k = mismatchOf (ascii (name k)) (count k other) (count k self)
 
 -- Of some counters, those whose counts differ, in the same order.
-unfoldable pub differing : TriggerStats → TriggerStats → List Counter → List Counter
+unfoldable pub differing : List ℕ → List ℕ → List Counter → List Counter
 differing self other [] = []
 differing self other (k ∷ ks) =
     pick (eqb (count k self) (count k other)) (differing self other ks) (k ∷ differing self other ks)
 
 -- The text of a comparison: the lines of the counters that differ, in the order of the fields (G4).
-unfoldable pub mismatchText : TriggerStats → TriggerStats → List ℕ
+unfoldable pub mismatchText : List ℕ → List ℕ → List ℕ
 mismatchText self other = inOrder (mismatch self other) (differing self other counters)

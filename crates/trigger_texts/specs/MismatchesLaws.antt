@@ -12,7 +12,6 @@ use Rattle.basis.specs.Pick.{pick}
 use Rattle.basis.specs.PickLaws.{on}
 use Rattle.text.specs.Ascii.{ascii}
 use Rattle.text_numbers.specs.NumeralLaws.{length-decimal}
-use Rattle.trigger_stats.specs.declared.TriggerStats.{TriggerStats}
 use Rattle.trigger_stats.specs.Counters.{Counter, InRange, count, counters}
 use Rattle.trigger_stats.specs.CountersLaws.{same-counts}
 use Rattle.trigger_texts.specs.CounterOrder.{inOrder}
@@ -20,7 +19,7 @@ use Rattle.trigger_texts.specs.CounterOrderLaws.{in-order-unless, total,
 use Rattle.trigger_texts.specs.FieldMismatches.{counterMismatch, mismatchIfAny}
 use Rattle.trigger_texts.specs.Mismatches.{differing, mismatch, mismatchOf, mismatchText, name}
 
-module _ (self other : TriggerStats) where
+module _ (self other : List ℕ) where
   abbrev each : Counter → List ℕ
   each = counterMismatch self other
 
@@ -74,14 +73,14 @@ module _ (self other : TriggerStats) where
           let line : 0 < length (mismatchOf (ascii (name k)) (count k other) (count k self)) = simp length-append (omega arith) in
           absurd (omega arith)
 
-  -- so a comparison that writes nothing tells that the statistics are equal
-  pub silent-equal : mismatchText self other ≡ [] → self ≡ other
-  silent-equal silent =
-      same-counts self other (λ k.
+  -- so a comparison that writes nothing tells that the counts are equal
+  pub silent-equal : length self ≡ 20 → length other ≡ 20 → mismatchText self other ≡ [] → self ≡ other
+  silent-equal all also-all silent =
+      same-counts self other all also-all (λ k.
       no-line k (omega (arith, one-of-total (λ j. length (each j)) k, length-mismatches, ap length silent)))
 
 -- equal statistics write nothing
-pub equal-silent : (s : TriggerStats) → mismatchText s s ≡ []
+pub equal-silent : (s : List ℕ) → mismatchText s s ≡ []
 unfolding differing inOrder mismatchText
 equal-silent s = ap (inOrder (mismatch s s)) (none counters)
   where

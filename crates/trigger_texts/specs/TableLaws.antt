@@ -10,18 +10,10 @@ use Rattle.text.specs.Ascii.{ascii}
 use Rattle.text_numbers.specs.NumeralLaws.{length-left}
 use Rattle.text_numbers.specs.Numerals.{left}
 use Rattle.trigger_stats.specs.Counters.{Counter, counterAt, counters, orbit}
+use Rattle.trigger_stats.specs.CountersLaws.{number-at}
 use Rattle.trigger_texts.specs.CounterOrder.{inOrder}
 use Rattle.trigger_texts.specs.Mismatches.{name}
 use Rattle.trigger_texts.specs.TriggerList.{label}
-
--- a number for each counter
-number-in : (n : Counter → ℕ) (ks : List Counter) (place : ℕ) → place < length ks → getD (map n ks) place 0 ≡ n (getD ks place orbit)
-number-in n [] place below = absurd (omega arith)
-number-in n (k ∷ ks) zero below = refl
-number-in n (k ∷ ks) (suc place) below = number-in n ks place (le-of-suc-le-suc below)
-
-pub number-at : (n : Counter → ℕ) (place : ℕ) → place < 20 → getD (map n counters) place 0 ≡ n (counterAt place)
-number-at n place below = number-in n counters place below
 
 -- a row of bytes for each counter, one behind the other and all of one width
 module _ (row : Counter → List ℕ) (width : ℕ) where

@@ -4,7 +4,6 @@ use Prim.Native.String.{String}
 use mathlib.Core.List.{List, _++_}
 use Rattle.text.specs.Ascii.{ascii}
 use Rattle.text_numbers.specs.Numerals.{decimal, right}
-use Rattle.trigger_stats.specs.declared.TriggerStats.{TriggerStats}
 use Rattle.trigger_stats.specs.Counters.{Counter, count, counters}
 use Rattle.trigger_stats.specs.Counters.{orbit, hb, hbr, hc, pht, pp, cal, sot, eot, soc, eoc, tf, fe-rst, rt, rs}
 use Rattle.trigger_stats.specs.Counters.{lhc-gap1, lhc-gap2, tpc-sync, tpc-rst, tof}
@@ -38,8 +37,8 @@ unfoldable pub lineOf : List ℕ → ℕ → List ℕ
 lineOf text n = text ++ right 6 (decimal n) ++ ascii "\n"
 
 -- A counter's line.
-unfoldable pub line : TriggerStats → Counter → List ℕ
+unfoldable pub line : List ℕ → Counter → List ℕ
 line s k = lineOf (ascii (label k)) (count k s)
 
-unfoldable pub listText : TriggerStats → List ℕ
+unfoldable pub listText : List ℕ → List ℕ
 listText s = ascii "Trigger statistics:\n" ++ inOrder (line s) counters

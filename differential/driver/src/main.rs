@@ -8,6 +8,7 @@ mod placed;
 mod rdh0;
 mod reading;
 mod scan;
+mod seen;
 mod timing;
 mod validator;
 

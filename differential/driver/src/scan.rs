@@ -3,10 +3,12 @@
 use crate::messages::Messages;
 use crate::placed::Placed;
 use crate::reading::{flag, hex, number, number_or_none, refuse};
+use crate::seen::{take_words, Noted};
 use alice_protocol_reader::config::filter::FilterOpt;
 use alice_protocol_reader::input_scanner::InputScanner;
 use alice_protocol_reader::rdh::{ByteSlice, RdhCru};
 use alice_protocol_reader::scan_cdp::ScanCDP;
+use fastpasta::stats::stats_collector::trigger_stats::TriggerStats;
 use std::fs::File;
 use std::io::{Error, ErrorKind, Result, Write};
 
@@ -68,8 +70,10 @@ impl FilterOpt for Settings {
     }
 }
 
-/// Loads until a refusal, and `more` loads after it, and prints each load's answer, messages, byte place and position; at last the counts.
+/// Loads until a refusal, and `more` loads after it, and prints each load's answer, messages, byte place and position; at last the counts,
+/// and the trigger counts of all headers that were seen.
 pub fn scan(settings: &Settings, recording: File, out: &mut impl Write) -> Result<()> {
+    take_words(); // what a scan without statistics has left
     let (reader, place) = Placed::new(recording);
     let (sender, receiver) = flume::unbounded();
     let mut scanner = InputScanner::new(settings, Box::new(reader), settings.stats.then_some(sender));
@@ -77,7 +81,7 @@ pub fn scan(settings: &Settings, recording: File, out: &mut impl Write) -> Resul
     let mut more = settings.more;
     while loads > 0 {
         loads -= 1;
-        let answer = scanner.load_cdp::<RdhCru>();
+        let answer = scanner.load_cdp::<Noted>().map(|(rdh, payload, position)| (rdh.into_rdh(), payload, position));
         let refused = answer.is_err();
         let mut messages = Messages::from(receiver.try_iter());
         messages.check(settings, &answer);
@@ -95,7 +99,30 @@ pub fn scan(settings: &Settings, recording: File, out: &mut impl Write) -> Resul
     // The counts are reported when the scanner is given back.
     drop(scanner);
     let [seen, filtered, payload] = Messages::from(receiver.try_iter()).counts();
-    writeln!(out, "counts {seen} {filtered} {payload}")
+    writeln!(out, "counts {seen} {filtered} {payload}")?;
+    // With statistics off nothing is counted.
+    let words = if settings.stats { take_words() } else { Vec::new() };
+    if words.len() as u64 % u64::from(u32::MAX) != u64::from(seen) {
+        writeln!(out, "unexpected: {} headers were noted as seen", words.len())?;
+    }
+    triggers(&words, out)
+}
+
+/// The trigger words, counted by the reference.
+fn triggers(words: &[u32], out: &mut impl Write) -> Result<()> {
+    let mut counts = TriggerStats::default();
+    words.iter().for_each(|word| counts.collect_stats(*word));
+    let of_bits = [
+        [counts.orbit(), counts.hb(), counts.hbr(), counts.hc(), counts.pht()],
+        [counts.pp(), counts.cal(), counts.sot(), counts.eot(), counts.soc()],
+        [counts.eoc(), counts.tf(), counts.fe_rst(), counts.rt(), counts.rs()],
+        [counts.lhc_gap1(), counts.lhc_gap2(), counts.tpc_sync(), counts.tpc_rst(), counts.tof()],
+    ];
+    write!(out, "triggers")?;
+    for count in of_bits.iter().flatten() {
+        write!(out, " {count}")?;
+    }
+    writeln!(out)
 }
 
 fn packet(rdh: &RdhCru, payload: &[u8], position: u64, out: &mut impl Write) -> Result<()> {

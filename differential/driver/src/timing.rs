@@ -3,14 +3,16 @@
 use crate::listing::list;
 use crate::scan::Settings;
 use alice_protocol_reader::input_scanner::InputScanner;
-use alice_protocol_reader::rdh::RdhCru;
+use alice_protocol_reader::rdh::{RdhCru, RDH_CRU};
 use alice_protocol_reader::scan_cdp::ScanCDP;
+use fastpasta::stats::stats_collector::trigger_stats::TriggerStats;
 use std::fs::File;
 use std::hint::black_box;
 use std::io::{BufReader, BufWriter, Result, Write};
 use std::time::Instant;
 
-/// Loads until the first refusal. `buffer` is the size of the reader's buffer: `BufReader::new` takes 8192.
+/// Loads until the first refusal. `buffer` is the size of the reader's buffer: `BufReader::new` takes 8192. With statistics on, our load counts
+/// the trigger words of the headers too, so the reference does: there is no filter, and each header that it has seen is handed out.
 pub fn loads(file: &str, skip: bool, stats: bool, buffer: usize, times: usize) -> Result<()> {
     let settings = Settings { skip, stats, ..Settings::default() };
     let title = format!("load skip={} stats={} buffer={buffer}", skip as u8, stats as u8);
@@ -18,11 +20,16 @@ pub fn loads(file: &str, skip: bool, stats: bool, buffer: usize, times: usize) -
         let reader = BufReader::with_capacity(buffer, File::open(file)?);
         let (sender, _messages) = flume::unbounded();
         let mut scanner = InputScanner::new(&settings, Box::new(reader), stats.then_some(sender));
+        let mut triggers = TriggerStats::default();
         let mut packets = 0;
         while let Ok(packet) = scanner.load_cdp::<RdhCru>() {
+            if stats {
+                triggers.collect_stats(packet.0.trigger_type());
+            }
             black_box(&packet);
             packets += 1;
         }
+        black_box(&triggers);
         Ok(packets)
     })
 }

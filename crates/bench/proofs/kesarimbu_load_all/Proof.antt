@@ -1,29 +1,31 @@
 -- The packets so far and those that the loads from here on find are all, where the recording is in memory.
-use Prim.Native.Nat.{_+_, _-_, _^_, _≤_}
+use Prim.Native.Nat.{_+_, _≤_}
 use mathlib.Core.Bool.{true}
 use mathlib.Core.Path.{_≡_, refl, ap, _∙_}
 use native.Mathlib.Omega.{arith}
 use lib.ListN.{length}
 use Rattle.scan_cdp.specs.Answers.{loadAnswer}
-use Rattle.scan_cdp.specs.Steps.{newState, withLinks}
+use Rattle.scan_cdp.specs.Steps.{withLent}
 use Rattle.scan_cdp.specs.declared.LoadCdp.{LoadCdp}
-use Rattle.scan_cdp.specs.declared.Settings.{Settings}
 use Rattle.scan_laws.specs.Runs.{isWant}
 use Rattle.listing_window.specs.HeldLaws.{shown-within}
-use Rattle.bench.specs.Counted.{isPacket, packetsFrom}
-use Rattle.bench.specs.CountedLaws.{Turn, no-want, none-left, none-more, one-more, starts, starts-within}
+use Rattle.bench.specs.Counted.{begun, isPacket, leftFrom, most, packetsFrom}
+use Rattle.bench.specs.CountedLaws.{Turn, counts-all, no-want, none-left, none-more, one-more, starts, starts-within}
 use borrow.Author.Needs.{needs}
 use Rattle.bench.proofs.kesarimbu_load_all.Statement.{statement}
 use Rattle.bench.proofs.kesarimbu_load_all.Tie as tie
 
 abbrev Inv-loop : tie.InvT-loop
-Inv-loop fd buffer₀ whole fee-ids₀ skip-payload stats set progress₀ links₀ held₀ packets₀ turns₀ buffer fee-ids progress links held packets turns =
-    (length buffer ≡ length buffer₀) × (length fee-ids ≡ length fee-ids₀) × (held .length ≤ length buffer) × (packets + turns ≤ 2 ^ 64 - 1)
+Inv-loop fd buffer₀ whole triggers₀ fee-ids₀ skip-payload stats set progress₀ links₀ held₀ packets₀ turns₀ buffer triggers fee-ids progress
+    links held packets turns =
+    (length buffer ≡ length buffer₀) × (length fee-ids ≡ length fee-ids₀) × (held .length ≤ length buffer) × (packets + turns ≤ most)
     × (whole ≡ true
-    → Turn set buffer₀ (packetsFrom (2 ^ 64 - 1) set newState fee-ids₀ buffer₀) buffer fee-ids (withLinks progress links) held packets turns)
+    → Turn set buffer₀ (packetsFrom most set (begun triggers₀) fee-ids₀ buffer₀) (leftFrom most set (begun triggers₀) fee-ids₀ buffer₀) buffer fee-ids
+    (withLent progress links triggers) held packets turns)
 
 abbrev μ-loop : tie.MeasureT-loop
-μ-loop fd buffer₀ whole fee-ids₀ skip-payload stats set progress₀ links₀ held₀ packets₀ turns₀ buffer fee-ids progress links held packets turns =
+μ-loop fd buffer₀ whole triggers₀ fee-ids₀ skip-payload stats set progress₀ links₀ held₀ packets₀ turns₀ buffer triggers fee-ids progress
+    links held packets turns =
     turns
 
 settings-requires : tie.Need-settings-requires Inv-loop μ-loop
@@ -43,8 +45,8 @@ loop-holds c =
       refl,
       starts-within (args .whole) (length (args .buffer .now)) (c .at-start .result) (c .at-start .ensures),
       omega arith,
-      starts _ (args .buffer .now) (args .fee-ids .now) (2 ^ 64 - 1) _ (c .at-start .result) (args .whole) (c .before .before .before .new .ensures)
-          (c .at-start .ensures),
+      starts _ (args .buffer .now) (args .fee-ids .now) (args .triggers .now) _ (c .at-start .result) (args .whole)
+          (c .before .before .before .new .ensures) (c .at-start .ensures),
     )
 
 sub-turns : tie.Need-sub-turns Inv-loop μ-loop
@@ -74,13 +76,13 @@ loop-less c = omega arith
 loop-again : tie.Need-loop-again Inv-loop μ-loop
 loop-again c =
     let load = c .before .before .before .before .before in
-    let turn = load .before .before .before .before .before .before in (
+    let turn = load .before .before .before .before .before .before .before in (
       turn .loop .inv .0,
-      load .load-cdp .kept .1 .1 .1 .0 ∙ turn .loop .inv .1,
+      load .load-cdp .kept .1 .1 .1 .1 .0 ∙ turn .loop .inv .1,
       turn .loop .inv .2,
-      omega (arith, turn .loop .inv .3, load .before .before .before .before .before .loop-test .taken),
+      omega (arith, turn .loop .inv .3, load .before .before .before .before .before .before .loop-test .taken),
       λ whole.
-          one-more (turn .loop .inv .4 whole) (load .before .before .before .before .before .loop-test .taken) _
+          one-more (turn .loop .inv .4 whole) (load .before .before .before .before .before .before .loop-test .taken) _
           (load .load-cdp .ensures) (ap (λ (a : LoadCdp). isPacket (loadAnswer a)) (c .enum-told .given .1)),
     )
 
@@ -106,9 +108,9 @@ returns : tie.Need-returns Inv-loop μ-loop
 returns c =
     let asked = c .before .before .before .before .before .before .before in
     let load = asked .before .before .before .before .before in
-    let turn = load .before .before .before .before .before .before in
+    let turn = load .before .before .before .before .before .before .before in
     λ whole.
-    absurd (no-want (turn .loop .inv .4 whole) (load .before .before .before .before .before .loop-test .taken) _
+    absurd (no-want (turn .loop .inv .4 whole) (load .before .before .before .before .before .before .loop-test .taken) _
     (load .load-cdp .ensures) (ap (λ (a : LoadCdp). isWant (loadAnswer a)) (asked .answer .given .1)))
 
 loop-less-2 : tie.Need-loop-less-2 Inv-loop μ-loop
@@ -119,13 +121,13 @@ loop-again-2 c =
     let refilled = c .before .before .before .before .before in
     let asked = refilled .before .before .before in
     let load = asked .before .before .before .before .before in
-    let turn = load .before .before .before .before .before .before in (
+    let turn = load .before .before .before .before .before .before .before in (
       refilled .refill .kept .1 .0 ∙ turn .loop .inv .0,
-      load .load-cdp .kept .1 .1 .1 .0 ∙ turn .loop .inv .1,
+      load .load-cdp .kept .1 .1 .1 .1 .0 ∙ turn .loop .inv .1,
       shown-within _ _ _ _ (refilled .refill .last .1 .0) (c .before .next .given .1) (refilled .refill .ensures),
-      omega (arith, turn .loop .inv .3, load .before .before .before .before .before .loop-test .taken),
+      omega (arith, turn .loop .inv .3, load .before .before .before .before .before .before .loop-test .taken),
       λ whole.
-          absurd (no-want (turn .loop .inv .4 whole) (load .before .before .before .before .before .loop-test .taken) _
+          absurd (no-want (turn .loop .inv .4 whole) (load .before .before .before .before .before .before .loop-test .taken) _
           (load .load-cdp .ensures) (ap (λ (a : LoadCdp). isWant (loadAnswer a)) (asked .answer .given .1))),
     )
 
@@ -141,13 +143,12 @@ same-length-4 c = search needs
 returns-2 : tie.Need-returns-2 Inv-loop μ-loop
 returns-2 c =
     let load = c .before .before .before .before .before in
-    let turn = load .before .before .before .before .before .before in
-    let start = turn .before .before .before .before .before .before .before .before in
+    let turn = load .before .before .before .before .before .before .before in
+    let same = turn .before .before .before .before .before .settings .ensures in
     λ whole.
-    none-more (turn .loop .inv .4 whole) (load .before .before .before .before .before .loop-test .taken) _
-    (load .load-cdp .ensures) (ap (λ (a : LoadCdp). isPacket (loadAnswer a)) (c .enum-told3 .given .1))
-    ∙ ap (λ (set : Settings). packetsFrom (2 ^ 64 - 1) set newState (start .args .fee-ids .now) (start .args .buffer .now))
-    (turn .before .before .before .before .before .settings .ensures)
+    counts-all same
+    (none-more (turn .loop .inv .4 whole) (load .before .before .before .before .before .before .loop-test .taken) _
+    (load .load-cdp .ensures) (ap (λ (a : LoadCdp). isPacket (loadAnswer a)) (c .enum-told3 .given .1)))
 
 same-length-5 : tie.Need-same-length-5 Inv-loop μ-loop
 same-length-5 c = search needs
@@ -158,11 +159,8 @@ same-length-6 c = search needs
 returns-3 : tie.Need-returns-3 Inv-loop μ-loop
 returns-3 c =
     let turn = c .before in
-    let start = turn .before .before .before .before .before .before .before .before in
-    λ whole.
-    none-left (turn .loop .inv .4 whole) (c .loop-test .left)
-    ∙ ap (λ (set : Settings). packetsFrom (2 ^ 64 - 1) set newState (start .args .fee-ids .now) (start .args .buffer .now))
-    (turn .before .before .before .before .before .settings .ensures)
+    let same = turn .before .before .before .before .before .settings .ensures in
+    λ whole. counts-all same (none-left (turn .loop .inv .4 whole) (c .loop-test .left))
 
 pub kesarimbu-load-all-spec : {M : Type 1} → statement M
 kesarimbu-load-all-spec =

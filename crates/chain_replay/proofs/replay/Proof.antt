@@ -11,13 +11,13 @@ use Rattle.chain_replay.proofs.replay.Statement.{statement}
 use Rattle.chain_replay.proofs.replay.Tie as tie
 
 abbrev Inv-loop : tie.InvT-loop
-Inv-loop set links₀ fee-ids₀ recording loads firsts sizes lasts count last₀ made₀ links fee-ids last made =
-    Turn set (keeps (last₀ .progress) links₀ fee-ids₀) (callsOf recording loads firsts sizes lasts)
-    (callsFrom made recording loads firsts sizes lasts) made (standOf recording last links fee-ids)
+Inv-loop set links₀ triggers₀ fee-ids₀ recording loads firsts sizes lasts count last₀ made₀ links triggers fee-ids last made =
+    Turn set (keeps (last₀ .progress) links₀ triggers₀ fee-ids₀) (callsOf recording loads firsts sizes lasts)
+    (callsFrom made recording loads firsts sizes lasts) made (standOf recording last links triggers fee-ids)
     × (length fee-ids ≡ length fee-ids₀)
 
 abbrev μ-loop : tie.MeasureT-loop
-μ-loop set links₀ fee-ids₀ recording loads firsts sizes lasts count last₀ made₀ links fee-ids last made = count - made
+μ-loop set links₀ triggers₀ fee-ids₀ recording loads firsts sizes lasts count last₀ made₀ links triggers fee-ids last made = count - made
 
 fewest-requires : tie.Need-fewest-requires Inv-loop μ-loop
 fewest-requires c κs = search needs
@@ -45,11 +45,11 @@ same-length c = search needs
 returns : tie.Need-returns Inv-loop μ-loop
 returns c =
     let made = c .before .before .before in
-    let asked = made .before .before .before in
+    let asked = made .before .before .before .before in
     let looped = asked .before .before .before in
     let counted = looped .before in
     let args = counted .before .before .before .before .before .before .before .args in
-    let start = keeps (args .progress) (args .links .now) (args .fee-ids .now) in
+    let start = keeps (args .progress) (args .links .now) (args .triggers .now) (args .fee-ids .now) in
     let below : looped .loop .made < counted .fewest .result = omega (arith, asked .before .before .loop-test .taken) in
     follow (args .recording .now) (args .set) start (args .loads .now) (args .firsts .now) (args .sizes .now) (args .lasts .now) _ _
     (call-stops (args .recording .now) (args .set) start (args .loads .now) (args .firsts .now) (args .sizes .now) (args .lasts .now)
@@ -62,11 +62,11 @@ loop-less c = omega arith
 loop-again : tie.Need-loop-again Inv-loop μ-loop
 loop-again c =
     let made = c .before .before .before in
-    let asked = made .before .before .before in
+    let asked = made .before .before .before .before in
     let looped = asked .before .before .before in
     let counted = looped .before in
     let args = counted .before .before .before .before .before .before .before .args in
-    let start = keeps (args .progress) (args .links .now) (args .fee-ids .now) in
+    let start = keeps (args .progress) (args .links .now) (args .triggers .now) (args .fee-ids .now) in
     let below : looped .loop .made < counted .fewest .result = omega (arith, asked .before .before .loop-test .taken) in (
       call-goes-on (args .recording .now) (args .set) start (args .loads .now) (args .firsts .now) (args .sizes .now) (args .lasts .now)
           (looped .loop .made) _ (looped .loop .inv .0) _ (counted .fewest .ensures) below (asked .asked-at .result) (asked .asked-at .ensures) _
@@ -82,7 +82,7 @@ returns-2 c =
     let looped = c .before in
     let counted = looped .before in
     let args = counted .before .before .before .before .before .before .before .args in
-    let start = keeps (args .progress) (args .links .now) (args .fee-ids .now) in
+    let start = keeps (args .progress) (args .links .now) (args .triggers .now) (args .fee-ids .now) in
     follow (args .recording .now) (args .set) start (args .loads .now) (args .firsts .now) (args .sizes .now) (args .lasts .now) _ _
     (all-made (args .set) start _ _ (looped .loop .made) _ (looped .loop .inv .0)
     (no-more (looped .loop .made) _ (args .recording .now) (args .loads .now) (args .firsts .now) (args .sizes .now) (args .lasts .now)

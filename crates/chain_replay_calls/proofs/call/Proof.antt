@@ -32,19 +32,20 @@ returns : tie.Need-returns
 returns c =
     let judged = c .before in
     let made = judged .before .before .before .before .before .before .before in
-    let last = made .before .before .before in
+    let last = made .before .before .before .before in
     let lent = last .before in
     let part = lent .before in
     let args = part .before .before .before .args in
     let left = made .make .last in
     let told = made .make .result .told in
-    let k = keeps (made .make .result .progress) (left .1 .1 .0) (left .1 .1 .1 .0) in
-    let ends = c .ends-chain .ensures ∙ (λ i. endsTold told (judged .unusable .ensures i)) in
+    let k = keeps (made .make .result .progress) (left .1 .1 .0) (left .1 .1 .1 .0) (left .1 .1 .1 .1 .0) in
+    let ends = c .ends-chain .ensures ∙ (λ i. endsTold told (judged .unusable .ensures (left .1 .1 .1 .0) i)) in
     (λ i. record { reply = toldOn (sym (lent .payload .ensures) i) k told; kept = k; ends = ends i })
     ∙ stands-told _ k told _ (made .make .ensures)
     ∙ ap
     (λ (w : Window).
-    standBy (replyTo (args .set) (keeps (args .progress) (args .links .now) (args .fee-ids .now)) (callOn (args .asked .load) w)))
+    standBy (replyTo (args .set) (keeps (args .progress) (args .links .now) (args .triggers .now) (args .fee-ids .now))
+    (callOn (args .asked .load) w)))
     (lent-asked (args .recording .now) (args .asked) (part .part-of .result) _ _ (part .part-of .ensures) (lent .payload .ensures)
     (last .reaches .ensures))
 

@@ -21,10 +21,10 @@ returns : tie.Need-returns
 unfolding replyTo
 returns c =
     let loaded = c .before .before .before .before in
-    let asked = loaded .before .before .before in
+    let asked = loaded .before .before .before .before in
     let args = asked .before .before .before .args in
     let w = lentAs (args .window .now) (args .first .0) (args .last) in
-    let k = keeps (args .progress) (args .links .now) (args .fee-ids .now) in
+    let k = keeps (args .progress) (args .links .now) (args .triggers .now) (args .fee-ids .now) in
     ap (λ (l : Loaded Part). load (loadRead (args .window .now) l) ∷ []) (loaded .load-cdp .ensures)
     ∙ sym (ap (λ (b : Bool). replyTo (args .set) k (callOn b w) ∷ []) (asked .if1 .taken))
 
@@ -38,10 +38,10 @@ returns-2 : tie.Need-returns-2
 unfolding replyTo
 returns-2 c =
     let examined = c .before .before .before .before in
-    let asked = examined .before .before .before in
+    let asked = examined .before .before .before .before in
     let args = asked .before .before .before .args in
     let w = lentAs (args .window .now) (args .first .0) (args .last) in
-    let k = keeps (args .progress) (args .links .now) (args .fee-ids .now) in
+    let k = keeps (args .progress) (args .links .now) (args .triggers .now) (args .fee-ids .now) in
     ap (λ (e : Entry Part). examination (entryRead (args .window .now) e) ∷ []) (examined .examine .ensures)
     ∙ sym (ap (λ (b : Bool). replyTo (args .set) k (callOn b w) ∷ []) (asked .if1 .left))
 

@@ -13,7 +13,7 @@ has-link-twice-requires c κs = search needs
 
 returns : tie.Need-returns
 unfolding unusable
-returns c = λ i. c .before .numbers-unusable .ensures i || c .has-link-twice .ensures i
+returns c = λ triggers i. c .before .numbers-unusable .ensures i || c .has-link-twice .ensures i
 
 pub unusable-spec : {M : Type 1} → statement M
 unusable-spec = tie.close (tie.spec numbers-unusable-requires has-link-twice-requires returns)

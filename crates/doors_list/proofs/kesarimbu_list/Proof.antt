@@ -1,6 +1,6 @@
 -- The listing of what the structs say; the arrays hold what it leaves.
 use mathlib.Core.Path.{ap, _∙_}
-use Rattle.scan_cdp.specs.Steps.{withLinks}
+use Rattle.scan_cdp.specs.Steps.{withLent}
 use Rattle.listing_batch.specs.Listings.{listedInto}
 use Rattle.doors_list.specs.Doors.{left, leftBy, listedThrough}
 use borrow.Author.Needs.{needs}
@@ -33,16 +33,17 @@ unfolding listedThrough
 returns c =
     let call = c .before .before .before .before .before .before in
     let checked = call .before .before .before in
-    let asked = checked .before .before in
+    let asked = checked .before .before .before in
     let args = asked .before .before .before .before .before .args in
     let made = call .list-loads in
     let links = made .last .1 .1 .0 in
-    let feeIds = made .last .1 .1 .1 .1 .0 in
-    let out = made .last .1 .1 .1 .1 .1 .1 .1 .1 .0 in
-    (λ i. left (c .plain-listed .ensures i) links feeIds out)
+    let triggers = made .last .1 .1 .1 .0 in
+    let feeIds = made .last .1 .1 .1 .1 .1 .0 in
+    let out = made .last .1 .1 .1 .1 .1 .1 .1 .1 .1 .0 in
+    (λ i. left (c .plain-listed .ensures i) links triggers feeIds out)
     ∙ ap leftBy (made .ensures)
     ∙ (λ i. leftBy (listedInto (args .out .now) (asked .before .settings-of .ensures i) (checked .validator-of .ensures i)
-    (withLinks (asked .progress-of .ensures i) (args .links .now)) (args .fee-ids .now) (args .window .now) (args .first)
+    (withLent (asked .progress-of .ensures i) (args .links .now) (args .triggers .now)) (args .fee-ids .now) (args .window .now) (args .first)
     (args .last)))
 
 pub kesarimbu-list-spec : {M : Type 1} → statement M

@@ -2,7 +2,7 @@
 use mathlib.Core.Path.{_≡_, ap, _∙_}
 use Rattle.scan_cdp.specs.Answers.{examinedAnswer}
 use Rattle.scan_cdp.specs.Loads.{noLoadMarks, replied}
-use Rattle.scan_cdp.specs.Steps.{Entry, withLinks}
+use Rattle.scan_cdp.specs.Steps.{Entry, withLent}
 use Rattle.scan_cdp.specs.Windows.{examined}
 use Rattle.scan_cdp.specs.declared.Part.{Part}
 use Rattle.scan_replies.specs.Examinations.{examinationOf}
@@ -35,24 +35,25 @@ unfolding examinedThrough
 returns c =
     let marked = c .before .before in
     let called = marked .before .before .before .before in
-    let asked = called .before .before .before in
+    let asked = called .before .before .before .before in
     let args = asked .before .before .before .before .args in
     let examination = called .examine in
     let links = examination .last .1 .1 .0 in
-    let feeIds = examination .last .1 .1 .1 .0 in
-    let is : examinationOf (examination .result) links feeIds
-    ≡ examined (settingsOf (args .settings)) (stateOf (args .state) (args .links .now)) (args .fee-ids .now) (args .window .now) (args .first)
-    (args .last) =
+    let triggers = examination .last .1 .1 .1 .0 in
+    let feeIds = examination .last .1 .1 .1 .1 .0 in
+    let is : examinationOf (examination .result) links triggers feeIds
+    ≡ examined (settingsOf (args .settings)) (stateOf (args .state) (args .links .now) (args .triggers .now)) (args .fee-ids .now)
+    (args .window .now) (args .first) (args .last) =
     examination .ensures
-    ∙ (λ i. examined (asked .before .settings-of .ensures i) (withLinks (asked .progress-of .ensures i) (args .links .now)) (args .fee-ids .now)
-    (args .window .now) (args .first) (args .last)) in
-    c .hand-back .ensures links feeIds
+    ∙ (λ i. examined (asked .before .settings-of .ensures i) (withLent (asked .progress-of .ensures i) (args .links .now) (args .triggers .now))
+    (args .fee-ids .now) (args .window .now) (args .first) (args .last)) in
+    c .hand-back .ensures links triggers feeIds
     ∙ (λ i.
     leftBy
     (record {
       answer = examinedAnswer (examination .result .answer);
       marks = marked .alone .ensures i;
-      state = withLinks (examination .result .progress) links;
+      state = withLent (examination .result .progress) links triggers;
       feeIds = feeIds;
     })
     (args .header .now))

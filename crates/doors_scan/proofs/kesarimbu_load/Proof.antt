@@ -2,7 +2,7 @@
 use mathlib.Core.Path.{_≡_, ap, _∙_}
 use Rattle.input_scanner.specs.Replies.{loadOf}
 use Rattle.scan_cdp.specs.Loads.{Loaded, loaded}
-use Rattle.scan_cdp.specs.Steps.{withLinks}
+use Rattle.scan_cdp.specs.Steps.{withLent}
 use Rattle.scan_cdp.specs.declared.Part.{Part}
 use Rattle.doors_scan.specs.Doors.{leftBy, loadedThrough}
 use Rattle.doors_scan_structs.specs.Plain.{settingsOf, stateOf}
@@ -29,18 +29,19 @@ returns : tie.Need-returns
 unfolding loadedThrough
 returns c =
     let called = c .before .before .before .before .before in
-    let asked = called .before .before .before in
+    let asked = called .before .before .before .before in
     let args = asked .before .before .before .before .args in
     let load = called .load-cdp in
     let links = load .last .1 .1 .0 in
-    let feeIds = load .last .1 .1 .1 .0 in
-    let is : loadOf (load .result) links feeIds
-    ≡ loaded (settingsOf (args .settings)) (stateOf (args .state) (args .links .now)) (args .fee-ids .now) (args .window .now) (args .first)
-    (args .last) =
+    let triggers = load .last .1 .1 .1 .0 in
+    let feeIds = load .last .1 .1 .1 .1 .0 in
+    let is : loadOf (load .result) links triggers feeIds
+    ≡ loaded (settingsOf (args .settings)) (stateOf (args .state) (args .links .now) (args .triggers .now)) (args .fee-ids .now)
+    (args .window .now) (args .first) (args .last) =
     load .ensures
-    ∙ (λ i. loaded (asked .before .settings-of .ensures i) (withLinks (asked .progress-of .ensures i) (args .links .now)) (args .fee-ids .now)
-    (args .window .now) (args .first) (args .last)) in
-    c .hand-back .ensures links feeIds ∙ ap (λ (l : Loaded Part). leftBy l (args .header .now)) is
+    ∙ (λ i. loaded (asked .before .settings-of .ensures i) (withLent (asked .progress-of .ensures i) (args .links .now) (args .triggers .now))
+    (args .fee-ids .now) (args .window .now) (args .first) (args .last)) in
+    c .hand-back .ensures links triggers feeIds ∙ ap (λ (l : Loaded Part). leftBy l (args .header .now)) is
 
 pub kesarimbu-load-spec : {M : Type 1} → statement M
 kesarimbu-load-spec =

@@ -10,7 +10,8 @@ use Rattle.listing.proofs.list.Statement.{statement}
 use Rattle.listing.proofs.list.Tie as tie
 
 abbrev Inv-loop : tie.InvT-loop
-Inv-loop buffer₀ fee-ids₀ out₀ set progress₀ links₀ validator₀ held₀ used₀ turns₀ buffer fee-ids out progress links validator held used turns =
+Inv-loop buffer₀ fee-ids₀ out₀ set progress₀ links₀ triggers₀ validator₀ held₀ used₀ turns₀ buffer fee-ids out progress links triggers
+    validator held used turns =
     (length buffer ≡ length buffer₀)
     × (length fee-ids ≡ length fee-ids₀)
     × (length out ≡ length out₀)
@@ -18,7 +19,9 @@ Inv-loop buffer₀ fee-ids₀ out₀ set progress₀ links₀ validator₀ held�
     × (used ≤ length out)
 
 abbrev μ-loop : tie.MeasureT-loop
-μ-loop buffer₀ fee-ids₀ out₀ set progress₀ links₀ validator₀ held₀ used₀ turns₀ buffer fee-ids out progress links validator held used turns = turns
+μ-loop buffer₀ fee-ids₀ out₀ set progress₀ links₀ triggers₀ validator₀ held₀ used₀ turns₀ buffer fee-ids out progress links triggers validator
+    held used turns =
+    turns
 
 list-settings-requires : tie.Need-list-settings-requires Inv-loop μ-loop
 list-settings-requires c κs = search needs
@@ -43,7 +46,7 @@ with-room-requires : tie.Need-with-room-requires Inv-loop μ-loop
 with-room-requires c κs =
     let turn = c .before .before in
     let begun = turn .before .before .before .before .before in
-    let start = begun .before .before .before .before .before in
+    let start = begun .before .before .before .before .before .before in
     (turn .loop .inv .4, omega (arith, start .pre, turn .loop .inv .2))
 
 enum-known-at : tie.Need-enum-known-at Inv-loop μ-loop
@@ -79,7 +82,7 @@ list-cdp-requires c κs = search needs
 next-window-requires : tie.Need-next-window-requires Inv-loop μ-loop
 next-window-requires c κs =
     let listed = c .before .before .before .before .before .before .before .before in
-    let made = listed .before .before .before .before .before .before .before in
+    let made = listed .before .before .before .before .before .before .before .before in
     let turn = made .before .before .before .before .before in
     turn .loop .inv .3
 
@@ -94,17 +97,17 @@ flush-requires c κs =
     let asked = c .before .before .before .before .before in
     let stored = asked .before .before .before .before .before .before in
     let listed = stored .before .before .before in
-    let made = listed .before .before .before .before .before .before .before in
+    let made = listed .before .before .before .before .before .before .before .before in
     let tried = made .before .before in
     let turn = tried .before .before .before in
-    put-within (turn .loop .out) _ _ _ (listed .list-cdp .ensures) (room-there (turn .loop .out) (made .at .given .1) (tried .with-room .ensures))
+    put-within (turn .loop .out) _ _ _ _ (listed .list-cdp .ensures) (room-there (turn .loop .out) (made .at .given .1) (tried .with-room .ensures))
 
 same-length-4 : tie.Need-same-length-4 Inv-loop μ-loop
 same-length-4 c =
     let asked = c .before .before .before .before .before .before in
     let stored = asked .before .before .before .before .before .before in
     let listed = stored .before .before .before in
-    let made = listed .before .before .before .before .before .before .before in
+    let made = listed .before .before .before .before .before .before .before .before in
     let turn = made .before .before .before .before .before in
     asked .next-window .kept .0 ∙ turn .loop .inv .0
 
@@ -113,18 +116,18 @@ same-length-5 c =
     let asked = c .before .before .before .before .before .before in
     let stored = asked .before .before .before .before .before .before in
     let listed = stored .before .before .before in
-    let made = listed .before .before .before .before .before .before .before in
+    let made = listed .before .before .before .before .before .before .before .before in
     let turn = made .before .before .before .before .before in
-    listed .list-cdp .kept .1 .1 .1 .1 .0 ∙ turn .loop .inv .1
+    listed .list-cdp .kept .1 .1 .1 .1 .1 .0 ∙ turn .loop .inv .1
 
 same-length-6 : tie.Need-same-length-6 Inv-loop μ-loop
 same-length-6 c =
     let asked = c .before .before .before .before .before .before in
     let stored = asked .before .before .before .before .before .before in
     let listed = stored .before .before .before in
-    let made = listed .before .before .before .before .before .before .before in
+    let made = listed .before .before .before .before .before .before .before .before in
     let turn = made .before .before .before .before .before in
-    listed .list-cdp .kept .1 .1 .1 .1 .1 .1 .1 .1 .0 ∙ turn .loop .inv .2
+    listed .list-cdp .kept .1 .1 .1 .1 .1 .1 .1 .1 .1 .0 ∙ turn .loop .inv .2
 
 returns-2 : tie.Need-returns-2 Inv-loop μ-loop
 returns-2 c = tt
@@ -134,7 +137,7 @@ loop-less c =
     let asked = c .before .before .before .before .before in
     let stored = asked .before .before .before .before .before .before in
     let listed = stored .before .before .before in
-    let made = listed .before .before .before .before .before .before .before in
+    let made = listed .before .before .before .before .before .before .before .before in
     let test = made .before .before .before .before in
     omega (arith, test .loop-test .taken)
 
@@ -143,14 +146,15 @@ loop-again c =
     let asked = c .before .before .before .before .before in
     let stored = asked .before .before .before .before .before .before in
     let listed = stored .before .before .before in
-    let made = listed .before .before .before .before .before .before .before in
+    let made = listed .before .before .before .before .before .before .before .before in
     let tried = made .before .before in
     let turn = tried .before .before .before in (
       asked .next-window .kept .0 ∙ turn .loop .inv .0,
-      listed .list-cdp .kept .1 .1 .1 .1 .0 ∙ turn .loop .inv .1,
-      listed .list-cdp .kept .1 .1 .1 .1 .1 .1 .1 .1 .0 ∙ turn .loop .inv .2,
+      listed .list-cdp .kept .1 .1 .1 .1 .1 .0 ∙ turn .loop .inv .1,
+      listed .list-cdp .kept .1 .1 .1 .1 .1 .1 .1 .1 .1 .0 ∙ turn .loop .inv .2,
       held-there (asked .next-window .last .0) (c .before .next .given .1) (asked .next-window .ensures),
-      put-within (turn .loop .out) _ _ _ (listed .list-cdp .ensures) (room-there (turn .loop .out) (made .at .given .1) (tried .with-room .ensures)),
+      put-within (turn .loop .out) _ _ _ _ (listed .list-cdp .ensures)
+          (room-there (turn .loop .out) (made .at .given .1) (tried .with-room .ensures)),
     )
 
 same-length-7 : tie.Need-same-length-7 Inv-loop μ-loop

@@ -3,7 +3,7 @@ use Prim.Native.Nat.{_-_}
 use mathlib.Core.Path.{sym, _∙_}
 use native.Mathlib.Omega.{arith}
 use lib.ListN.{length}
-use Rattle.scan_cdp.specs.Steps.{withLinks}
+use Rattle.scan_cdp.specs.Steps.{withLent}
 use Rattle.listing_batch.specs.BatchLaws.{ListTurn, at-within, count-fits, list-begins, list-ends, list-full, list-goes-on, list-moves, same-size}
 use borrow.Author.Tests.{not-false, not-true}
 use borrow.Author.Needs.{needs}
@@ -11,17 +11,21 @@ use Rattle.listing_batch.proofs.put_loads.Statement.{statement}
 use Rattle.listing_batch.proofs.put_loads.Tie as tie
 
 abbrev Inv-loop : tie.InvT-loop
-Inv-loop set links₀ fee-ids₀ window first last out₀ progress₀ validator₀ at₀ unsound₀ links fee-ids out progress validator at unsound =
-    ListTurn set validator₀ (withLinks progress₀ links₀) fee-ids₀ window (first .0) last out₀ validator (withLinks progress links) fee-ids out at
-    unsound
+Inv-loop set links₀ triggers₀ fee-ids₀ window first last out₀ progress₀ validator₀ at₀ unsound₀ links triggers fee-ids out progress validator
+    at unsound =
+    ListTurn set validator₀ (withLent progress₀ links₀ triggers₀) fee-ids₀ window (first .0) last out₀ validator
+    (withLent progress links triggers) fee-ids out at unsound
 
 abbrev μ-loop : tie.MeasureT-loop
-μ-loop set links₀ fee-ids₀ window first last out₀ progress₀ validator₀ at₀ unsound₀ links fee-ids out progress validator at unsound = length out₀ - at
+μ-loop set links₀ triggers₀ fee-ids₀ window first last out₀ progress₀ validator₀ at₀ unsound₀ links triggers fee-ids out progress validator at
+    unsound =
+    length out₀ - at
 
 loop-holds : tie.Need-loop-holds Inv-loop μ-loop
 loop-holds c =
     let args = c .before .before .before .args in
-    list-begins (args .set) (args .validator) (withLinks (args .progress) (args .links .now)) (args .fee-ids .now) (args .window .now) (args .first .0) (args .last) (args .out .now)
+    list-begins (args .set) (args .validator) (withLent (args .progress) (args .links .now) (args .triggers .now)) (args .fee-ids .now)
+    (args .window .now) (args .first .0) (args .last) (args .out .now)
 
 sub-loop : tie.Need-sub-loop Inv-loop μ-loop
 sub-loop c = omega (arith, at-within (c .loop .inv))
@@ -35,7 +39,7 @@ cast-unsound c = search needs
 add-unsound : tie.Need-add-unsound Inv-loop μ-loop
 add-unsound c =
     let call = c .before .before .before .before .before .before in
-    let test = call .before .before .before .before in
+    let test = call .before .before .before .before .before in
     let turn = test .before in
     omega (arith, count-fits (turn .loop .inv) (call .list-cdp .ensures) (test .loop-test .taken))
 
@@ -47,25 +51,25 @@ same-length c =
     let told = c .before in
     let load = told .before .before .before .before in
     let call = load .before .before .before .before .before in
-    let test = call .before .before .before .before in
+    let test = call .before .before .before .before .before in
     let turn = test .before in
-    call .list-cdp .kept .1 .1 .1 .1 .0 ∙ turn .loop .inv .fee-ids
+    call .list-cdp .kept .1 .1 .1 .1 .1 .0 ∙ turn .loop .inv .fee-ids
 
 same-length-2 : tie.Need-same-length-2 Inv-loop μ-loop
 same-length-2 c =
     let told = c .before in
     let load = told .before .before .before .before in
     let call = load .before .before .before .before .before in
-    let test = call .before .before .before .before in
+    let test = call .before .before .before .before .before in
     let turn = test .before in
-    call .list-cdp .kept .1 .1 .1 .1 .1 .1 .1 .1 .0 ∙ same-size (turn .loop .inv)
+    call .list-cdp .kept .1 .1 .1 .1 .1 .1 .1 .1 .1 .0 ∙ same-size (turn .loop .inv)
 
 returns : tie.Need-returns Inv-loop μ-loop
 returns c =
     let told = c .before in
     let load = told .before .before .before .before in
     let call = load .before .before .before .before .before in
-    let test = call .before .before .before .before in
+    let test = call .before .before .before .before .before in
     let turn = test .before in
     let stops = sym (told .is-packet .ensures) ∙ not-true _ (c .if1 .taken) in
     list-ends (turn .loop .inv) (call .list-cdp .ensures) (test .loop-test .taken) stops
@@ -75,7 +79,7 @@ loop-less c =
     let told = c .before in
     let load = told .before .before .before .before in
     let call = load .before .before .before .before .before in
-    let test = call .before .before .before .before in
+    let test = call .before .before .before .before .before in
     let turn = test .before in
     let goes = sym (told .is-packet .ensures) ∙ not-false _ (c .if1 .left) in
     let moves = list-moves (turn .loop .inv) (call .list-cdp .ensures) (test .loop-test .taken) goes in
@@ -86,10 +90,10 @@ loop-again c =
     let told = c .before in
     let load = told .before .before .before .before in
     let call = load .before .before .before .before .before in
-    let test = call .before .before .before .before in
+    let test = call .before .before .before .before .before in
     let turn = test .before in
     let goes = sym (told .is-packet .ensures) ∙ not-false _ (c .if1 .left) in
-    list-goes-on (turn .loop .inv) (call .list-cdp .ensures) (test .loop-test .taken) goes (call .list-cdp .kept .1 .1 .1 .1 .0)
+    list-goes-on (turn .loop .inv) (call .list-cdp .ensures) (test .loop-test .taken) goes (call .list-cdp .kept .1 .1 .1 .1 .1 .0)
 
 same-length-3 : tie.Need-same-length-3 Inv-loop μ-loop
 same-length-3 c = c .before .loop .inv .fee-ids

@@ -37,10 +37,10 @@ returns c =
     let packed = c .before .before .before in
     let told = packed .before .before .before in
     let replied = told .before .before .before .before in
-    let start = replied .before .before .before .before .before .before in
+    let start = replied .before .before .before .before .before .before .before in
     let args = start .args in
     let load = replied .load-cdp in
-    lists-packet _ (args .validator) (args .out .now) (args .at) _ _ _ _ _ _ (load .ensures) (told .answer .given .1)
+    lists-packet _ (args .validator) (args .out .now) (args .at) _ _ _ _ _ _ _ (load .ensures) (told .answer .given .1)
     (packed .put-packet .ensures) refl
 
 same-length-3 : tie.Need-same-length-3
@@ -49,11 +49,11 @@ same-length-3 c = search needs
 returns-2 : tie.Need-returns-2
 returns-2 c =
     let replied = c .before .before .before .before in
-    let start = replied .before .before .before .before .before .before in
+    let start = replied .before .before .before .before .before .before .before in
     let args = start .args in
     let load = replied .load-cdp in
-    lists _ (args .validator) (args .out .now) (args .at) _ _ _ _ _ (load .ensures) (c .enum-told .given .1) refl refl
-    (put-nothing _ _ (omega (arith, start .good .1 .1 .1 .1 .1 .1 .1 .1 .0)) (omega (arith, start .good .1 .1 .1 .1 .1 .1 .1 .1 .1 .0))) (omega arith)
+    lists _ (args .validator) (args .out .now) (args .at) _ _ _ _ _ _ (load .ensures) (c .enum-told .given .1) refl refl
+    (put-nothing _ _ (omega (arith, start .good .1 .1 .1 .1 .1 .1 .1 .1 .1 .0)) (omega (arith, start .good .1 .1 .1 .1 .1 .1 .1 .1 .1 .1 .0))) (omega arith)
 
 same-length-4 : tie.Need-same-length-4
 same-length-4 c = search needs
@@ -65,10 +65,10 @@ returns-3 : tie.Need-returns-3
 returns-3 c =
     let told = c .before .before .before .before .before .before in
     let replied = told .before .before .before .before in
-    let start = replied .before .before .before .before .before .before in
+    let start = replied .before .before .before .before .before .before .before in
     let args = start .args in
     let load = replied .load-cdp in
-    lists _ (args .validator) (args .out .now) (args .at) _ _ _ _ _ (load .ensures) (told .answer2 .given .1) refl refl
+    lists _ (args .validator) (args .out .now) (args .at) _ _ _ _ _ _ (load .ensures) (told .answer2 .given .1) refl refl
     (c .before .before .put-last .ensures) (short-last _ _)
 
 pub list-cdp-spec : {M : Type 1} → statement M

@@ -13,7 +13,10 @@ unchanged-requires : tie.Need-unchanged-requires
 unchanged-requires c κs = search needs
 
 returns : tie.Need-returns
-returns c = λ links feeIds. nothing-changed (c .unchanged .ensures) links feeIds ∙ sym (off _ _ (not-true (c .before .before .before .before .before .args .last) (c .before .if1 .taken)))
+returns c =
+    λ links triggers feeIds.
+    nothing-changed (c .unchanged .ensures) links triggers feeIds
+    ∙ sym (off _ _ (not-true (c .before .before .before .before .before .args .last) (c .before .if1 .taken)))
 
 refused-requires : tie.Need-refused-requires
 refused-requires c κs = search needs
@@ -27,7 +30,7 @@ greater-requires c κs = search needs
 returns-2 : tie.Need-returns-2
 unfolding ended
 returns-2 c =
-    λ links feeIds.
+    λ links triggers feeIds.
     let p = c .before .before .before .before .before .before .before .args .progress in
     (λ i. record {
       answer = c .before .before .refused .ensures i;
@@ -42,6 +45,7 @@ returns-2 c =
           «fee_ids_used» = p .«fee_ids_used»;
         };
         links = links;
+        triggers = triggers;
       };
       feeIds = feeIds;
     })

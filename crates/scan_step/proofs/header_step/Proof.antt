@@ -5,8 +5,8 @@ use mathlib.Core.Path.{_≡_, ap, sym, subst, _∙_}
 use mathlib.Core.List.{List}
 use Rattle.rdh.specs.declared.rdh_cru.RdhCru.{RdhCru}
 use Rattle.stats.specs.Lists.{full}
-use Rattle.scan_cdp.specs.Steps.{cut, isFirst, lists, outcomeIn, placesListed, usedListed, withLinks}
-use Rattle.scan_cdp.specs.Outcomes.{isCounted, feeId, outcomeOf}
+use Rattle.scan_cdp.specs.Steps.{cut, isFirst, lists, outcomeIn, placesListed, triggersAfter, usedListed, withLent}
+use Rattle.scan_cdp.specs.Outcomes.{isCounted, feeId, outcomeOf, triggerType}
 use Rattle.scan_cdp.specs.declared.Progress.{Progress}
 use Rattle.scan_cdp.specs.declared.Settings.{Settings}
 use Rattle.scan_cdp.specs.declared.Outcome.{Outcome}
@@ -67,18 +67,19 @@ returns c =
     let told = cut .before in
     let room = told .before .before in
     let started = room .before .before in
-    let args = started .before .before .before .before .args in
+    let args = started .before .before .before .args in
     let set = args .set in
     let p = args .progress in
     let links = args .links .now in
+    let triggers = args .triggers .now in
     let fee-ids = args .fee-ids .now in
     let h = args .rdh in
     let t = outcome-is set p fee-ids h (started .is-first .ensures) (room .fee-ids-full .ensures) (told .outcome-of .ensures) in
     let wanted = sym (wanted-is set h (args .left) (args .last) t (cut .is-cut .ensures)) ∙ c .before .before .if1 .taken in
     λ rest size.
-    nothing-changed (c .unchanged .ensures) links fee-ids
-    ∙ ap (λ (n : ℕ). wanting (withLinks p links) fee-ids (64 + n)) (c .before .payload-size .ensures)
-    ∙ header-wanted set p links fee-ids h (args .start) (args .left) (args .last) wanted rest size
+    nothing-changed (c .unchanged .ensures) links triggers fee-ids
+    ∙ ap (λ (n : ℕ). wanting (withLent p links triggers) fee-ids (64 + n)) (c .before .payload-size .ensures)
+    ∙ header-wanted set p links triggers fee-ids h (args .start) (args .left) (args .last) wanted rest size
 
 is-counted-requires : tie.Need-is-counted-requires
 is-counted-requires c κs = search needs
@@ -100,17 +101,19 @@ same-length-3 c = search needs
 
 returns-2 : tie.Need-returns-2
 returns-2 c =
-    let fee-listed = c .before .before .before in
+    let triggered = c .before in
+    let fee-listed = triggered .before .before .before .before in
     let link-listed = fee-listed .before .before .before .before in
     let counted = link-listed .before .before .before in
     let cut = counted .before .before in
     let told = cut .before in
     let room = told .before .before in
     let started = room .before .before in
-    let args = started .before .before .before .before .args in
+    let args = started .before .before .before .args in
     let set = args .set in
     let p = args .progress in
     let links = args .links .now in
+    let triggers = args .triggers .now in
     let fee-ids = args .fee-ids .now in
     let h = args .rdh in
     let first = started .is-first .ensures in
@@ -119,10 +122,11 @@ returns-2 c =
     let due = counted-is set p first t (counted .is-counted .ensures) in
     let link = link-listed .list-link in
     let fee = fee-listed .list-fee-id in
-    header-entered set p links fee-ids h (args .start) (args .left) (args .last) not-wanted _ _ _ _
+    header-entered set p links triggers fee-ids h (args .start) (args .left) (args .last) not-wanted _ _ _ _ _
     (subst (λ (u : Outcome). Stepped set p u h (args .start) (args .left) (link .result) (fee .result) (c .stepped .result)) t (c .stepped .ensures))
     (link .ensures .0 ∙ (λ i. usedListed (due i) (h .«link_id») (p .«links_used») links))
     (link .ensures .1 ∙ (λ i. placesListed (due i) (h .«link_id») (p .«links_used») links))
+    (triggered .count-trigger .ensures ∙ (λ i. triggersAfter (due i) (triggerType h) triggers))
     (fee .ensures .0 ∙ (λ i. usedListed (due i) (feeId h) (p .«fee_ids_used») fee-ids))
     (fee .ensures .1 ∙ (λ i. placesListed (due i) (feeId h) (p .«fee_ids_used») fee-ids))
 
@@ -143,6 +147,7 @@ header-step-spec =
     is-counted-requires
     list-link-requires
     list-fee-id-requires
+    (λ c κs. tt)
     stepped-requires
     same-length-2
     same-length-3

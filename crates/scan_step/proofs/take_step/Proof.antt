@@ -35,11 +35,12 @@ returns c =
     let args = tested .before .before .before .before .before .args in
     let p = args .progress in
     let links = args .links .now in
+    let triggers = args .triggers .now in
     let fee-ids = args .fee-ids .now in
     let w = args .window .now in
     let six = sym (tested .numbers-unusable .ensures) ∙ c .before .if1 .taken in
-    nothing-changed (c .unchanged .ensures) links fee-ids
-    ∙ sym (stepped-refused (args .set) p links fee-ids w (args .first .0) (args .last)
+    nothing-changed (c .unchanged .ensures) links triggers fee-ids
+    ∙ sym (stepped-refused (args .set) p links triggers fee-ids w (args .first .0) (args .last)
     (ap (λ (b : Bool). b || outside (p .place .0) (args .first .0) (length w)) six))
 
 outside-requires : tie.Need-outside-requires
@@ -54,11 +55,12 @@ returns-2 c =
     let args = looked .before .before .before .before .before .before .before .args in
     let p = args .progress in
     let links = args .links .now in
+    let triggers = args .triggers .now in
     let fee-ids = args .fee-ids .now in
     let w = args .window .now in
     let numbers = numbersUnusable p (length links) (length fee-ids) in
-    nothing-changed (c .unchanged2 .ensures) links fee-ids
-    ∙ sym (stepped-refused (args .set) p links fee-ids w (args .first .0) (args .last)
+    nothing-changed (c .unchanged2 .ensures) links triggers fee-ids
+    ∙ sym (stepped-refused (args .set) p links triggers fee-ids w (args .first .0) (args .last)
     (ap (λ (b : Bool). numbers || b) (sym (looked .outside .ensures) ∙ c .before .if2 .taken) ∙ or-true numbers))
 
 sub-start-in : tie.Need-sub-start-in
@@ -104,7 +106,7 @@ sub-header-step c = search needs
 
 header-step-requires : tie.Need-header-step-requires
 header-step-requires c κs =
-    let read = c .before .before .before .before .before in
+    let read = c .before .before .before .before .before .before in
     let found = read .before .before in
     let passed = found .before .before .before in
     let looked = passed .before in
@@ -116,7 +118,8 @@ header-step-requires c κs =
     let window = inside (p .place .0) (args .first .0) (length w) (sym (looked .outside .ensures) ∙ passed .if2 .left) in
     let numbers = within p (length (args .links .now)) (length (args .fee-ids .now)) six in
     let start = found .start-in .result in
-    let header = sym (ap (λ (r : FromBuf). decodeAnswer r) (c .before .before .before .rdh .given .1)) ∙ read .from-buf .ensures ∙ to-the-end w start in
+    let header =
+    sym (ap (λ (r : FromBuf). decodeAnswer r) (c .before .before .before .before .rdh .given .1)) ∙ read .from-buf .ensures ∙ to-the-end w start in
     let whole = decode-given (drop start w) _ header .0 in
     record {
       place = numbers .place;
@@ -135,14 +138,15 @@ returns-3 c =
     let args = numbered .before .before .before .before .before .args in
     let p = args .progress in
     let links = args .links .now in
+    let triggers = args .triggers .now in
     let fee-ids = args .fee-ids .now in
     let w = args .window .now in
     let six = sym (numbered .numbers-unusable .ensures) ∙ looked .before .if1 .left in
     let window = sym (looked .outside .ensures) ∙ passed .if2 .left in
     let start = found .start-in in
     let short = sym (ap (λ (r : FromBuf). decodeAnswer r) (c .before .before .enum-told .given .1)) ∙ read .from-buf .ensures ∙ to-the-end w (start .result) in
-    c .lacking .ensures links fee-ids
-    ∙ stepped-lacking (args .set) p links fee-ids w (args .first .0) (args .last) six window (start .result) (start .ensures) 9 [] short
+    c .lacking .ensures links triggers fee-ids
+    ∙ stepped-lacking (args .set) p links triggers fee-ids w (args .first .0) (args .last) six window (start .result) (start .ensures) 9 [] short
 
 same-length : tie.Need-same-length
 same-length c = search needs
@@ -153,7 +157,7 @@ same-length-2 c = search needs
 returns-4 : tie.Need-returns-4
 returns-4 c =
     let stepped = c .before .before .before .before in
-    let read = stepped .before .before .before .before .before .before in
+    let read = stepped .before .before .before .before .before .before .before in
     let found = read .before .before in
     let passed = found .before .before .before in
     let looked = passed .before in
@@ -164,10 +168,10 @@ returns-4 c =
     let window = sym (looked .outside .ensures) ∙ passed .if2 .left in
     let start = found .start-in in
     let header =
-    sym (ap (λ (r : FromBuf). decodeAnswer r) (stepped .before .before .before .before .rdh .given .1)) ∙ read .from-buf .ensures
+    sym (ap (λ (r : FromBuf). decodeAnswer r) (stepped .before .before .before .before .before .rdh .given .1)) ∙ read .from-buf .ensures
     ∙ to-the-end w (start .result) in
-    stepped-decoded (args .set) (args .progress) (args .links .now) (args .fee-ids .now) w (args .first .0) (args .last) six window
-    (start .result) (start .ensures) _ header (stepped .header-step .ensures)
+    stepped-decoded (args .set) (args .progress) (args .links .now) (args .triggers .now) (args .fee-ids .now) w (args .first .0) (args .last)
+    six window (start .result) (start .ensures) _ header (stepped .header-step .ensures)
 
 pub take-step-spec : {M : Type 1} → statement M
 take-step-spec =

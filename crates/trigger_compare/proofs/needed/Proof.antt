@@ -10,7 +10,7 @@ use Rattle.trigger_texts.specs.MismatchesLaws.{longest-comparison}
 use Rattle.trigger_compare.proofs.needed.Statement.{statement}
 use Rattle.trigger_compare.proofs.needed.Tie as tie
 
-longest : (c : tie.Start) → length (mismatchText (c .args .stats) (c .args .other)) ≤ 1058
+longest : (c : tie.Start) → length (mismatchText (c .args .counts) (c .args .expected)) ≤ 1058
 longest c = longest-comparison _ _ (in-range _ _ (c .good .0)) (in-range _ _ (c .good .1 .0))
 
 returns : tie.Need-returns

@@ -10,8 +10,8 @@ use Rattle.trigger_texts.specs.TriggerListLaws.{longest-list}
 use Rattle.trigger_list.proofs.needed.Statement.{statement}
 use Rattle.trigger_list.proofs.needed.Tie as tie
 
-longest : (c : tie.Start) → length (listText (c .args .stats)) ≤ 480
-longest c = longest-list (c .args .stats) (in-range _ _ (c .good .0))
+longest : (c : tie.Start) → length (listText (c .args .counts)) ≤ 480
+longest c = longest-list (c .args .counts) (in-range _ _ (c .good .0))
 
 returns : tie.Need-returns
 returns c = holds-longest (longest (c .before)) (c .if1 .taken)
