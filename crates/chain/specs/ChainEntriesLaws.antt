@@ -14,6 +14,7 @@ use Rattle.scan_laws.specs.StepLaws.{entry-cases, step-cases}
 use Rattle.chain.specs.Chain.{Kept, chain, chainOf, isRefused, left, next, placeOf}
 use Rattle.chain.specs.ChainEntriesClaims.{Allowance, EntryByEntry, OnlyEntries, RefusedLast, isEntry, isNone}
 use Rattle.chain.specs.ChainLaws.{chain-allowed, chain-induction, chain-unfolds}
+use Rattle.chain.specs.Following.{entriesOf}
 
 pub entry-by-entry : EntryByEntry
 entry-by-entry = chain-unfolds
@@ -64,7 +65,7 @@ refused-last recording set start earlier e later is = ordered-here earlier e lat
 -- ---- the allowance
 
 few : (n : ℕ) (recording : List ℕ) (set : Settings) (k : Kept) → length (chainOf n recording set k) ≤ n
-unfolding chainOf
+unfolding chainOf entriesOf
 few zero recording set k = omega arith
 few (suc n) recording set k =
     let e = next recording set k in

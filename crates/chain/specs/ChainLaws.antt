@@ -14,6 +14,7 @@ use Rattle.scan_laws.specs.OutcomeLaws.{known-here}
 use Rattle.scan_laws.specs.RowLaws.{place-moves}
 use Rattle.scan_laws.specs.StepLaws.{step-cases, step-six}
 use Rattle.chain.specs.Chain.{Kept, behind, chain, chainOf, isRefused, left, next, placeOf}
+use Rattle.chain.specs.Following.{entriesOf}
 
 -- ---- an entry moves on
 
@@ -73,7 +74,7 @@ pick-same false x y z e = e refl
 -- However many entries are allowed, if they are enough, the chain is the same.
 same-chain : (n m : ℕ) (recording : List ℕ) (set : Settings) (k : Kept) → Enough recording n k → Enough recording m k
     → chainOf n recording set k ≡ chainOf m recording set k
-unfolding chainOf
+unfolding chainOf entriesOf
 same-chain zero m recording set k one other = absurd (omega (arith, one .some))
 same-chain (suc n) zero recording set k one other = absurd (omega (arith, other .some))
 same-chain (suc n) (suc m) recording set k one other =
@@ -95,7 +96,7 @@ chain-allowed n recording set k more =
 -- The chain is the next entry and, unless that is refused, the chain from there on.
 pub chain-unfolds : (recording : List ℕ) (set : Settings) (k : Kept)
     → chain recording set k ≡ next recording set k ∷ behind (chain recording set) (next recording set k)
-unfolding chain chainOf
+unfolding chain chainOf entriesOf
 chain-unfolds recording set k = sym (chain-allowed (suc (length recording / 64 + 1)) recording set k (omega arith))
 
 -- Where state and list meet refusal 6, that is all of the chain.

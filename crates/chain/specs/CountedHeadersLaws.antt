@@ -8,7 +8,7 @@ use borrow.Author.Tests.{eqb-true, ltb-false, ltb-true}
 use lib.Dec.{eqb, ltb}
 use lib.ListN.{length, drop, length-append}
 use Rattle.basis.specs.Pick.{pick}
-use Rattle.basis.specs.PickLaws.{by-test, off, on}
+use Rattle.basis.specs.PickLaws.{by-test, on}
 use Rattle.rdh.specs.declared.rdh_cru.RdhCru.{RdhCru}
 use Rattle.stats.specs.Counts.{added, fullCount}
 use Rattle.stats.specs.declared.Count.{Count}
@@ -16,7 +16,7 @@ use Rattle.trigger_stats.specs.Counters.{collected, count}
 use Rattle.trigger_stats.specs.CountersLaws.{collected-both, counts-words}
 use Rattle.scan_cdp.specs.Loads.{isPassed, noLoadMarks, together}
 use Rattle.scan_cdp.specs.Outcomes.{isCounted, triggerType}
-use Rattle.scan_cdp.specs.Steps.{Entry, answerIn, ended, entryOf, isFirst, marksOf, outcomeIn, payloadOf, progressAfter, raised, tallied, triggersAfter, unusable}
+use Rattle.scan_cdp.specs.Steps.{Entry, answerIn, ended, entryOf, isFirst, marksOf, outcomeIn, payloadOf, progressAfter, raised, tallied, triggersAfter}
 use Rattle.scan_cdp.specs.declared.LoadMarks.{LoadMarks}
 use Rattle.scan_cdp.specs.declared.Marks.{Marks}
 use Rattle.scan_cdp.specs.declared.Outcome.{Outcome}
@@ -27,9 +27,10 @@ use Rattle.scan_laws.specs.RowLaws.{either}
 use Rattle.scan_laws.specs.StepLaws.{step-cases, usable}
 use Rattle.chain.specs.Calls.{Call, Hold, Reply, Served, Window, along, examinedBy, examines, free, held, heldBack, keptBy, keptByAll, loadAlong, loadedBy, loads, replies, servedBy, toCome}
 use Rattle.chain.specs.CallsFollowLaws.{calls-follow, leaves-rest}
-use Rattle.chain.specs.Chain.{Kept, chain, left, next, placeOf}
+use Rattle.chain.specs.Chain.{Kept, chain, left, placeOf}
+use Rattle.chain.specs.GatheredLaws.{each-part, gathered-both}
 use Rattle.chain.specs.CountedHeaders.{carriesIn, carriesOf, countedHeaders, countedIn, countedWords, isCountedBy, seenOf, triggersOf}
-use Rattle.chain.specs.CountedHeadersClaims.{CallsCount, Counted, after}
+use Rattle.chain.specs.CountedHeadersClaims.{CallsCount, after}
 use Rattle.chain.specs.Following.{Each, cutInto, keptAfter, leftOver}
 use Rattle.chain.specs.OwnPositions.{openAt}
 use Rattle.chain.specs.Walk.{Met, headerAt, met, walk, walkAlong}
@@ -121,13 +122,6 @@ next-raises recording set k =
 
 -- ---- the steps that a call meets
 
-counted-both : (set : Settings) (ms others : List Met) → countedHeaders set (ms ++ others) ≡ countedHeaders set ms ++ countedHeaders set others
-unfolding flatMap
-counted-both set [] others = refl
-counted-both set (m ∷ ms) others =
-    ap (λ (hs : List RdhCru). countedIn set m ++ hs) (counted-both set ms others)
-    ∙ sym (append-assoc (countedIn set m) (countedHeaders set ms) (countedHeaders set others))
-
 module _ (recording : List ℕ) (set : Settings) where
   -- Of some entries to come, these steps were met, and the others are still to come; what is kept has counted those that were met.
   record Took (k : Kept) (es : List (Entry (List ℕ))) (k′ : Kept) (rest : List (Entry (List ℕ))) (carries : ℕ) : Type 0 where
@@ -161,7 +155,7 @@ module _ (recording : List ℕ) (set : Settings) where
   took-both {k} {k′} {k″} {c = c} {d = d} one other =
       let ms = one .steps in
       let others = other .steps in
-      let headers = counted-both set ms others in
+      let headers = gathered-both (countedIn set) ms others in
       record {
         steps = ms ++ others;
         split =
@@ -241,10 +235,6 @@ module _ (recording : List ℕ) (set : Settings) where
 
   -- ---- all calls
 
-  each-back : {A : Type 0} (P : A → Type 0) (xs ys : List A) → Each P (xs ++ ys) → Each P ys
-  each-back P [] ys each = each
-  each-back P (x ∷ xs) ys (this, others) = each-back P xs ys others
-
   along-took : (k : Kept) (calls : List Call) (es : List (Entry (List ℕ))) → Counting k es
       → Took k es (keptByAll k (along set k calls es)) (toCome set k calls es) (carriesOf (along set k calls es))
   unfolding cutInto leftOver keptAfter carriesOf
@@ -254,7 +244,7 @@ module _ (recording : List ℕ) (set : Settings) where
       let o = servedBy set k c e es in
       let one = served-took k c e es counting in
       let onward : Counting (keptBy (o .reply)) (o .rest) =
-      each-back (Raises set) (one .steps) _ (subst (Each (Raises set)) (sym (one .split)) counting) in
+      each-part (Raises set) (one .steps) _ (subst (Each (Raises set)) (sym (one .split)) counting) .1 in
       took-both one (along-took (keptBy (o .reply)) cs (o .rest) onward)
 
 pub calls-count : CallsCount

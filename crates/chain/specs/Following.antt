@@ -1,7 +1,22 @@
--- A list of calls on any reader: its replies, and the runs of entries that a chain is cut into, one for each call.
+-- Any reader: the chain of entries that it meets; a list of calls on it, with its replies; and the runs of entries that a chain is cut into, one
+-- for each call.
+use Prim.Native.Nat.{ℕ, zero, suc}
 use mathlib.Core.Bool.{Bool, false, _||_}
 use mathlib.Core.List.{List, [], _∷_}
 use Rattle.basis.specs.Pick.{pick}
+
+-- A chain of entries: what each one leaves, and whether it is the last.
+module _ {Kept Entry : Type 0} (left : Entry → Kept) (stops : Entry → Bool) where
+  -- What is behind an entry, of a chain that goes on from what it left.
+  abbrev pub behindOf : (Kept → List Entry) → Entry → List Entry
+  behindOf onward e = pick (stops e) [] (onward (left e))
+
+  -- The chain over any `next`, which says what is met where a reader stands: at most n entries.
+  unfoldable pub entriesOf : (Kept → Entry) → ℕ → Kept → List Entry
+  entriesOf next zero k = []
+  entriesOf next (suc n) k =
+      let e = next k in
+      e ∷ behindOf (entriesOf next n) e
 
 -- A reply, and the entries that are still to come.
 pub record Served (Entry Reply : Type 0) : Type 0 where

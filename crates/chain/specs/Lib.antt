@@ -1,7 +1,7 @@
 -- What is defined.
+pub mod Following
 pub mod Chain
 pub mod Walk
-pub mod Following
 pub mod Calls
 pub mod PacketLists
 pub mod OwnPositions
@@ -15,6 +15,8 @@ pub mod OwnPositionsClaims
 pub mod CountedHeadersClaims
 pub mod AddedBytesClaims
 -- Why it holds.
+pub mod GatheredLaws
+pub mod InStepLaws
 pub mod ChainLaws
 pub mod ChainEntriesLaws
 pub mod WalkLaws
@@ -26,6 +28,7 @@ pub mod WindowOfLaws
 pub mod ExaminationLaws
 pub mod LoadLaws
 pub mod CallsFollowLaws
+pub mod TellingLaws
 pub mod PacketsLaws
 pub mod OwnPositionsLaws
 pub mod CountedHeadersLaws

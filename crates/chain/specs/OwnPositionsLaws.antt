@@ -21,6 +21,7 @@ use Rattle.chain.specs.Calls.{replies, replyAnswer, replyTo, toCome}
 use Rattle.chain.specs.Chain.{Kept, chain, isRefused, left, next}
 use Rattle.chain.specs.ChainLaws.{chain-induction, chain-unfolds}
 use Rattle.chain.specs.Following.{Each, repliesOf}
+use Rattle.chain.specs.GatheredLaws.{each-part}
 use Rattle.chain.specs.LoadLaws.{not-refused}
 use Rattle.chain.specs.NextLaws.{PassedBy, Tells, next-tells}
 use Rattle.chain.specs.OwnPositions.{WholeLoad, openAt, loadStart, offsets, passedAfter, passedFirst, positionOf, wholeLoads}
@@ -226,10 +227,6 @@ each-mapped : {A B : Type 0} (P : B → Type 0) (f : A → B) (xs : List A) → 
 each-mapped P f [] each = tt
 each-mapped P f (x ∷ xs) (this, others) = (this, each-mapped P f xs others)
 
-each-front : {A : Type 0} (P : A → Type 0) (xs ys : List A) → Each P (xs ++ ys) → Each P xs
-each-front P [] ys each = tt
-each-front P (x ∷ xs) ys (this, others) = (this, each-front P xs ys others)
-
 -- What holds of each load's packet holds of each packet of the chain and of the calls.
 each-packet : (P : Packet → Type 0) (recording : List ℕ) (set : Settings) (start : Kept)
     → Each (λ l. P (l .packet)) (wholeLoads [] (walk recording set start)) → EachPacket P recording set start
@@ -239,8 +236,8 @@ each-packet P recording set start each =
     record {
       on-chain = on-chain;
       by-calls = λ calls windows.
-          each-front P (packetsOf (replies set start calls)) (packetsIn (toCome set start calls (chain recording set start)))
-          (subst (Each P) (sym (each-once recording set start calls windows)) on-chain);
+          each-part P (packetsOf (replies set start calls)) (packetsIn (toCome set start calls (chain recording set start)))
+          (subst (Each P) (sym (each-once recording set start calls windows)) on-chain) .0;
     }
 
 -- Without a filter no header is passed, so that no load is ever open.

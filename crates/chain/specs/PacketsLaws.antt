@@ -1,9 +1,9 @@
 -- Proofs of the statements on packets: what a call is served hands out the packets of the entries that it takes, and each entry of the chain
 -- tells whether the header there matches.
 use Prim.Native.Nat.{ℕ, _≤_}
-use mathlib.Core.Bool.{true, false, not, _&&_, false≢true, true≢false}
+use mathlib.Core.Bool.{true, false, not, _&&_, true≢false}
 use mathlib.Core.Path.{_≡_, refl, ap, sym, _∙_}
-use mathlib.Core.List.{List, [], _∷_, _++_, append-assoc, append-nil, flatMap}
+use mathlib.Core.List.{List, [], _∷_, map-append}
 use native.Mathlib.Omega.{arith}
 use borrow.Author.Tests.{not-true}
 use lib.ListN.{length}
@@ -18,82 +18,28 @@ use Rattle.scan_cdp.specs.Outcomes.{isMatch}
 use Rattle.scan_cdp.specs.declared.LoadMarks.{LoadMarks}
 use Rattle.scan_cdp.specs.declared.OpenLoad.{OpenLoad}
 use Rattle.scan_cdp.specs.declared.Settings.{Settings}
-use Rattle.chain.specs.Calls.{Call, Hold, Reply, Served, Window, along, replyAnswer, examination, examinedBy, examines, free, held, heldBack, keptBy, loadAlong, loadedBy, loads, replies, servedBy, toCome}
+use Rattle.chain.specs.Calls.{Call, Hold, Served, Window, along, examination, examinedBy, examines, free, held, heldBack, keptBy, loadAlong, loadedBy, loads, replies, servedBy, toCome}
 use Rattle.chain.specs.CallsLaws.{held-cases}
 use Rattle.chain.specs.Chain.{Kept, chain, isRefused, left, next}
-use Rattle.chain.specs.CallsFollowLaws.{calls-follow, leaves-rest}
+use Rattle.chain.specs.CallsFollowLaws.{calls-follow}
 use Rattle.chain.specs.Following.{cutInto, leftOver}
+use Rattle.chain.specs.GatheredLaws.{gathered-as}
 use Rattle.chain.specs.NextLaws.{Tells, next-tells}
 use Rattle.chain.specs.OwnPositions.{openAt, positionOf}
 use Rattle.chain.specs.PacketLists.{Packet, headersOf, isHeld, matchIn, matching, noneHeld, packetIn, packetsIn, packetsOf}
 use Rattle.chain.specs.PacketsClaims.{EachOnce, ExactlyMatching, MatchingInTurn, NoneMissing, ReachesEnd}
+use Rattle.chain.specs.TellingLaws.{Telling, all-told, told-once}
 use Rattle.chain.specs.Walk.{headerAt}
 use Rattle.chain.specs.WalkLaws.{entries-collected, same-collected}
 
 -- ---- each once
 
--- What holds a call back hands out no packet, and is told from the reply.
-abbrev Quiet : Kept → Hold → Type 0
-Quiet k free = Unit {0}
-Quiet k (held a) = (packetIn a ≡ []) × (isHeld (examination (unchanged (k .state) (k .feeIds) a)) ≡ true)
-
-quiet : (set : Settings) (k : Kept) (w : Window) (e : Entry (List ℕ)) → Quiet k (heldBack set k w e)
-quiet set k w e = held-cases set k w e (Quiet k) tt (λ usable. (refl, ap not usable)) (λ size. (refl, refl))
-
-passed-none : (a : Answer (Found (List ℕ))) → isPassed a ≡ true → packetIn a ≡ []
-passed-none (gives passed) e = refl
-passed-none (gives (handed p)) e = absurd (false≢true e)
-passed-none (gives (wants place size)) e = absurd (false≢true e)
-passed-none (refuses number values) e = absurd (false≢true e)
-
--- what a call is served hands out the packets that its entries have
-abbrev packetsAfter : Served → List Packet
-packetsAfter o = packetIn (replyAnswer (o .reply)) ++ packetsIn (o .rest)
-
-examined-packets : (k : Kept) (e : Entry (List ℕ)) (es : List (Entry (List ℕ))) (h : Hold) → Quiet k h
-    → packetsAfter (examinedBy k e es h) ≡ packetsIn (e ∷ es)
-unfolding flatMap
-examined-packets k e es free fine = refl
-examined-packets k e es (held a) (none, told) = ap (λ (ps : List Packet). ps ++ (packetIn (e .answer) ++ packetsIn es)) none
-
-load-packets : (set : Settings) (w : Window) (es : List (Entry (List ℕ))) (ms : LoadMarks) (k : Kept)
-    → packetsAfter (loadAlong set w ms k es) ≡ packetsIn es
-unfolding loadAlong flatMap
-load-packets set w [] ms k = refl
-load-packets set w (e ∷ es) ms k =
-    by-held (heldBack set k w e) (quiet set k w e) (load-packets set w es (together ms (e .marks)) (left e))
-  where
-    by-held : (h : Hold) → Quiet k h → packetsAfter (loadAlong set w (together ms (e .marks)) (left e) es) ≡ packetsIn es
-        → packetsAfter (loadedBy ms k e es (loadAlong set w (together ms (e .marks)) (left e) es) h) ≡ packetIn (e .answer) ++ packetsIn es
-    by-held free fine onward =
-        by-test (λ (o : Served). packetsAfter o ≡ packetIn (e .answer) ++ packetsIn es) (isPassed (e .answer)) _ _
-        (λ passes. onward ∙ sym (ap (λ (ps : List Packet). ps ++ packetsIn es) (passed-none (e .answer) passes)))
-        (λ stops. refl)
-    by-held (held a) (none, told) onward = ap (λ (ps : List Packet). ps ++ (packetIn (e .answer) ++ packetsIn es)) none
-
-served-packets : (set : Settings) (k : Kept) (c : Call) (e : Entry (List ℕ)) (es : List (Entry (List ℕ)))
-    → packetsAfter (servedBy set k c e es) ≡ packetsIn (e ∷ es)
-unfolding servedBy
-served-packets set k (examines w) e es = examined-packets k e es (heldBack set k w e) (quiet set k w e)
-served-packets set k (loads w) e es = load-packets set w (e ∷ es) noLoadMarks k
-
-along-packets : (set : Settings) (k : Kept) (calls : List Call) (es : List (Entry (List ℕ)))
-    → packetsOf (along set k calls es) ++ packetsIn (toCome set k calls es) ≡ packetsIn es
-unfolding cutInto leftOver flatMap
-along-packets set k [] es = refl
-along-packets set k (c ∷ cs) [] = refl
-along-packets set k (c ∷ cs) (e ∷ es) =
-    let o = servedBy set k c e es in
-    append-assoc (packetIn (replyAnswer (o .reply))) (packetsOf (along set (keptBy (o .reply)) cs (o .rest)))
-    (packetsIn (toCome set (keptBy (o .reply)) cs (o .rest)))
-    ∙ ap (λ (ps : List Packet). packetIn (replyAnswer (o .reply)) ++ ps) (along-packets set (keptBy (o .reply)) cs (o .rest))
-    ∙ served-packets set k c e es
+-- An answer tells of its packet, whatever is kept.
+pub telling-packets : Telling (λ (a : Answer (Found (List ℕ))) (k : Kept). packetIn a)
+telling-packets = record { of-passed = λ k. refl; of-want = λ k place size. refl; of-six = λ k usable. refl }
 
 pub each-once : EachOnce
-each-once recording set start calls windows =
-    ap (λ (rs : List Reply). packetsOf rs ++ packetsIn (toCome set start calls (chain recording set start)))
-    (calls-follow recording set start calls windows)
-    ∙ along-packets set start calls (chain recording set start)
+each-once recording set start calls windows = told-once _ telling-packets recording set start calls windows
 
 -- ---- exactly the matching headers
 
@@ -105,22 +51,13 @@ header-told set k h position load (gives (handed p)) told = ap (λ (x : RdhCru).
 header-told set k h position load (gives (wants place size)) told = absurd told
 header-told set k h position load (refuses number values) told = refl
 
-headers-both : (ps qs : List Packet) → headersOf (ps ++ qs) ≡ headersOf ps ++ headersOf qs
-headers-both [] qs = refl
-headers-both (p ∷ ps) qs = ap (λ (hs : List RdhCru). p .header ∷ hs) (headers-both ps qs)
-
 abbrev headersIn : Entry (List ℕ) → List RdhCru
 headersIn e = headersOf (packetIn (e .answer))
-
-headers-in : (es : List (Entry (List ℕ))) → headersOf (packetsIn es) ≡ flatMap headersIn es
-unfolding flatMap
-headers-in [] = refl
-headers-in (e ∷ es) = headers-both (packetIn (e .answer)) (packetsIn es) ∙ ap (λ (hs : List RdhCru). headersIn e ++ hs) (headers-in es)
 
 pub exactly-matching : ExactlyMatching
 unfolding matching
 exactly-matching recording set start =
-    headers-in (chain recording set start)
+    gathered-as (λ (p : Packet). p .header) (λ (e : Entry (List ℕ)). packetIn (e .answer)) (chain recording set start)
     ∙ entries-collected headersIn recording set start
     ∙ same-collected (λ m. headersIn (m .entry)) (matchIn set) recording set start (λ k.
     let e = next recording set k in
@@ -130,19 +67,23 @@ exactly-matching recording set start =
 
 pub matching-in-turn : MatchingInTurn
 matching-in-turn recording set start calls windows =
-    sym (headers-both (packetsOf (replies set start calls)) (packetsIn (toCome set start calls (chain recording set start))))
+    sym (map-append (λ (p : Packet). p .header) (packetsOf (replies set start calls)) (packetsIn (toCome set start calls (chain recording set start))))
     ∙ ap headersOf (each-once recording set start calls windows)
     ∙ exactly-matching recording set start
 
 pub none-missing : NoneMissing
-unfolding flatMap
 none-missing recording set start calls windows end =
-    let headers = headersOf (packetsOf (replies set start calls)) in
-    sym (append-nil headers)
-    ∙ ap (λ (es : List (Entry (List ℕ))). headers ++ headersOf (packetsIn es)) (sym (leaves-rest recording set start calls windows ∙ on _ _ end))
-    ∙ matching-in-turn recording set start calls windows
+    ap headersOf (all-told _ telling-packets recording set start calls windows end) ∙ exactly-matching recording set start
 
 -- ---- to the chain's end
+
+-- What holds a call back is told from the reply.
+abbrev Seen : Kept → Hold → Type 0
+Seen k free = Unit {0}
+Seen k (held a) = isHeld (examination (unchanged (k .state) (k .feeIds) a)) ≡ true
+
+held-seen : (set : Settings) (k : Kept) (w : Window) (e : Entry (List ℕ)) → Seen k (heldBack set k w e)
+held-seen set k w e = held-cases set k w e (Seen k) tt (λ usable. ap not usable) (λ size. refl)
 
 -- A load that is not held back leaves no more entries than there were.
 abbrev NoLonger : Settings → Window → LoadMarks → Kept → List (Entry (List ℕ)) → Type 0
@@ -153,15 +94,15 @@ load-takes : (set : Settings) (w : Window) (ms : LoadMarks) (k : Kept) (e : Entr
     → NoLonger set w (together ms (e .marks)) (left e) es
     → isHeld (loadAlong set w ms k (e ∷ es) .reply) ≡ false → length (loadAlong set w ms k (e ∷ es) .rest) ≤ length es
 unfolding loadAlong
-load-takes set w ms k e es onward = by-held (heldBack set k w e) (quiet set k w e)
+load-takes set w ms k e es onward = by-held (heldBack set k w e) (held-seen set k w e)
   where
-    by-held : (h : Hold) → Quiet k h
+    by-held : (h : Hold) → Seen k h
         → isHeld (loadedBy ms k e es (loadAlong set w (together ms (e .marks)) (left e) es) h .reply) ≡ false
         → length (loadedBy ms k e es (loadAlong set w (together ms (e .marks)) (left e) es) h .rest) ≤ length es
     by-held free fine =
         by-test (λ (o : Served). isHeld (o .reply) ≡ false → length (o .rest) ≤ length es) (isPassed (e .answer)) _ _
         (λ passes. onward) (λ stops is. omega arith)
-    by-held (held a) (none, told) = λ is. absurd (true≢false (sym told ∙ is))
+    by-held (held a) told = λ is. absurd (true≢false (sym told ∙ is))
 
 no-longer : (set : Settings) (w : Window) (es : List (Entry (List ℕ))) (ms : LoadMarks) (k : Kept) → NoLonger set w ms k es
 unfolding loadAlong
@@ -169,15 +110,15 @@ no-longer set w [] ms k is = omega arith
 no-longer set w (e ∷ es) ms k is =
     omega (arith, load-takes set w ms k e es (no-longer set w es (together ms (e .marks)) (left e)) is)
 
-examined-takes : (k : Kept) (e : Entry (List ℕ)) (es : List (Entry (List ℕ))) (h : Hold) → Quiet k h
+examined-takes : (k : Kept) (e : Entry (List ℕ)) (es : List (Entry (List ℕ))) (h : Hold) → Seen k h
     → isHeld (examinedBy k e es h .reply) ≡ false → length (examinedBy k e es h .rest) ≤ length es
 examined-takes k e es free fine is = omega arith
-examined-takes k e es (held a) (none, told) is = absurd (true≢false (sym told ∙ is))
+examined-takes k e es (held a) told is = absurd (true≢false (sym told ∙ is))
 
 served-takes : (set : Settings) (k : Kept) (c : Call) (e : Entry (List ℕ)) (es : List (Entry (List ℕ)))
     → isHeld (servedBy set k c e es .reply) ≡ false → length (servedBy set k c e es .rest) ≤ length es
 unfolding servedBy
-served-takes set k (examines w) e es = examined-takes k e es (heldBack set k w e) (quiet set k w e)
+served-takes set k (examines w) e es = examined-takes k e es (heldBack set k w e) (held-seen set k w e)
 served-takes set k (loads w) e es = load-takes set w noLoadMarks k e es (no-longer set w es (together noLoadMarks (e .marks)) (left e))
 
 none-left : (es : List (Entry (List ℕ))) → length es ≤ 0 → es ≡ []

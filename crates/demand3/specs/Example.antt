@@ -29,7 +29,7 @@ use Rattle.chain.specs.CallsFollowLaws.{calls-follow}
 use Rattle.chain.specs.Chain.{Kept, chain, chainOf, isRefused}
 use Rattle.chain.specs.CountedHeaders.{seenOf, triggersOf}
 use Rattle.chain.specs.CountedHeadersClaims.{after}
-use Rattle.chain.specs.Following.{keptAfter, repliesOf}
+use Rattle.chain.specs.Following.{entriesOf, keptAfter, repliesOf}
 use Rattle.chain.specs.OwnPositions.{WholeLoad, offsets, wholeLoads}
 use Rattle.chain.specs.Walk.{Met, walk, walkAlong}
 use Rattle.demand3.specs.MarkedCasesLaws.{_then_}
@@ -72,7 +72,7 @@ calls-answer = refl
 
 -- The chain itself: the two packets, and the end.
 pub chain-answers : entryAnswers (chain recording plain start) ≡ givenAt 0 0 0x502A 64 ∷ givenAt 64 64 0x3006 64 ∷ refuses 1 [] ∷ []
-unfolding recording sample bytesOf numberAt little decoded header span chain chainOf unusable twice member step entryOf marksOf tallied raised added initialOf outcomeIn outcomeOf filtered full payloadOf cut placesListed placesAfter usedListed usedAfter progressAfter placeAfter ended
+unfolding recording sample bytesOf numberAt little decoded header span chain chainOf entriesOf unusable twice member step entryOf marksOf tallied raised added initialOf outcomeIn outcomeOf filtered full payloadOf cut placesListed placesAfter usedListed usedAfter progressAfter placeAfter ended
 chain-answers = refl
 
 -- The windows are windows of the recording, so that the theorem speaks of these calls.
@@ -115,12 +115,12 @@ skips bytes set =
 
 -- The least, 0, is skipped behind an offset of 64 ..
 pub least-skipped : (skips (alone 64) passing ≡ (gives passed, pos 0) ∷ []) × (skips (alone 64) handing ≡ (givenAt 0 0 0x502A 64, pos 0) ∷ [])
-unfolding sample bytesOf numberAt little decoded header span walk walkAlong chain chainOf unusable twice member step entryOf outcomeIn outcomeOf filtered full payloadOf cut placesListed usedListed progressAfter placeAfter marksOf tallied raised initialOf ended flatMap
+unfolding sample bytesOf numberAt little decoded header span walk walkAlong chain chainOf entriesOf unusable twice member step entryOf outcomeIn outcomeOf filtered full payloadOf cut placesListed usedListed progressAfter placeAfter marksOf tallied raised initialOf ended flatMap
 least-skipped = (refl, refl)
 
 -- .. and the most, 10,000, behind one of 10,064.
 pub most-skipped : (skips (alone 10064) passing ≡ (gives passed, pos 10000) ∷ []) × (skips (alone 10064) handing ≡ (givenAt 0 0 0x502A 10064, pos 10000) ∷ [])
-unfolding sample bytesOf numberAt little decoded header span walk walkAlong chain chainOf unusable twice member step entryOf outcomeIn outcomeOf filtered full payloadOf cut placesListed usedListed progressAfter placeAfter marksOf tallied raised initialOf ended flatMap
+unfolding sample bytesOf numberAt little decoded header span walk walkAlong chain chainOf entriesOf unusable twice member step entryOf outcomeIn outcomeOf filtered full payloadOf cut placesListed usedListed progressAfter placeAfter marksOf tallied raised initialOf ended flatMap
 most-skipped = (refl, refl)
 
 -- ---- the two positions of a packet (S12)
@@ -153,7 +153,7 @@ own-over-calls = refl
 
 -- These are the offsets that the walk gives for that load.
 pub offsets-by-walk : map (λ (l : WholeLoad). offsets (l .passed)) (wholeLoads [] (walk three last-fee start)) ≡ 144 ∷ []
-unfolding three recording sample bytesOf numberAt little decoded header span walk walkAlong chain chainOf unusable twice member step entryOf outcomeIn outcomeOf filtered full payloadOf cut placesListed usedListed progressAfter placeAfter marksOf tallied raised initialOf ended wholeLoads offsets
+unfolding three recording sample bytesOf numberAt little decoded header span walk walkAlong chain chainOf entriesOf unusable twice member step entryOf outcomeIn outcomeOf filtered full payloadOf cut placesListed usedListed progressAfter placeAfter marksOf tallied raised initialOf ended wholeLoads offsets
 offsets-by-walk = refl
 
 -- A state with an open load whose start is above the position, which no scan leaves.
