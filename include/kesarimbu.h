@@ -178,7 +178,10 @@ struct kesarimbu_checked {
        bits 27 to 31   15 lhc_gap1, 16 lhc_gap2, 17 tpc_sync, 18 tpc_rst, 19 tof */
 
 /* What a scan is asked for. Of several filters the first of link, FEE id and stave decides; without any, all headers match. A stave is a
-   FEE id, of which layer and stave are compared; kesarimbu_set_stave makes it of a name. */
+   FEE id, of which layer and stave are compared; kesarimbu_set_stave makes it of a name.
+
+   With `skip_payload` and without `stats` a filter only thins out: a scan hands out exactly the packets of the one without a filter that
+   match, with the same `own`, and ends alike, if no header has a memory size below 64 (docs/READER.md, C7 and C8). */
 struct kesarimbu_settings {
     bool by_link;
     bool by_fee;

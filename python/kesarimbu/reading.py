@@ -116,6 +116,17 @@ def packets(source: Source, *, link: int | None = None, fee: int | None = None, 
     >>> found.end.triggers.orbit, found.end.triggers.pht
     (1, 2)
 
+    With `skip_payload=True, stats=False` a filter only thins out: what is found are the packets found without it that match, at the same
+    `own` positions, and the end is the same. That is proved, if no header has a memory size below 64 (rules C7 and C8 of docs/READER.md):
+
+    >>> def quick(**filters):
+    ...     found = packets(io.BytesIO(other + first + other), skip_payload=True, stats=False, **filters)
+    ...     return [(hex(packet.header.fee_id), packet.own) for packet in found], found.end.refusal
+    >>> quick()
+    ([('0x6', 0), ('0x502a', 64), ('0x6', 132)], Refused(1))
+    >>> quick(link=3)
+    ([('0x6', 0), ('0x6', 132)], Refused(1))
+
     Windows are read, not mapped: a mapped file that somebody cuts meanwhile kills the process, and bytes that change under a proved
     function break its promise. A file that was opened here is closed at the end of the iteration; where that may not be reached:
 

@@ -2,7 +2,7 @@
 use Prim.Native.Nat.{ℕ, zero, suc, _+_, _*_, _/_, _<_, _≤_}
 use mathlib.Core.Bool.{Bool, true, false, true≢false}
 use mathlib.Core.Path.{_≡_, refl, ap, sym, _∙_}
-use mathlib.Core.List.{List, [], _∷_}
+use mathlib.Core.List.{List, [], _∷_, _++_, flatMap}
 use native.Mathlib.Omega.{arith}
 use lib.ListN.{length, drop, length-drop}
 use Rattle.basis.specs.Pick.{pick}
@@ -13,7 +13,7 @@ use Rattle.scan_cdp.specs.declared.Settings.{Settings}
 use Rattle.scan_laws.specs.OutcomeLaws.{known-here}
 use Rattle.scan_laws.specs.RowLaws.{place-moves}
 use Rattle.scan_laws.specs.StepLaws.{step-cases, step-six}
-use Rattle.chain.specs.Chain.{Kept, behind, chain, chainOf, isRefused, left, next, placeOf}
+use Rattle.chain.specs.Chain.{Kept, behind, chain, chainOf, isLast, isRefused, left, next, placeOf}
 use Rattle.chain.specs.Following.{entriesOf}
 
 -- ---- an entry moves on
@@ -105,3 +105,12 @@ pub chain-six : (recording : List ℕ) (set : Settings) (k : Kept) → unusable 
 chain-six recording set k six =
     chain-unfolds recording set k
     ∙ ap (λ (e : Entry (List ℕ)). e ∷ behind (chain recording set) e) (step-six set (k .state) (k .feeIds) _ (length recording) six)
+
+-- What is gathered along the chain is that of the next entry, and then that behind it.
+pub gathered-next : {A : Type 0} (f : Entry (List ℕ) → List A) (recording : List ℕ) (set : Settings) (k : Kept) (last : Bool)
+    → isLast (next recording set k) ≡ last
+    → flatMap f (chain recording set k) ≡ f (next recording set k) ++ flatMap f (pick last [] (chain recording set (left (next recording set k))))
+unfolding flatMap
+gathered-next f recording set k last is =
+    ap (flatMap f) (chain-unfolds recording set k)
+    ∙ ap (λ (b : Bool). f (next recording set k) ++ flatMap f (pick b [] (chain recording set (left (next recording set k))))) is

@@ -3,6 +3,7 @@ use Rattle.chain.specs.AddedBytesClaims.{AddedBytes}
 use Rattle.chain.specs.CallsFollowClaims.{CallsFollow, LeavesRest}
 use Rattle.chain.specs.ChainEntriesClaims.{Allowance, EntryByEntry, OnlyEntries, RefusedLast}
 use Rattle.chain.specs.CountedHeadersClaims.{CallsCount}
+use Rattle.chain_filter.specs.FilterThinsClaims.{FilterThins, FilterThinsAnywhere, NoneLost, OneEnd, OnlyThen, PremiseGives}
 use Rattle.chain.specs.OwnPositionsClaims.{OwnAtHeader, OwnInCall, OwnNotBefore, OwnOverLoads, OwnUnfiltered}
 use Rattle.chain.specs.PacketsClaims.{EachOnce, ExactlyMatching, MatchingInTurn, NoneMissing, ReachesEnd}
 use Rattle.chain.specs.SkipsClaims.{EachSkipsAhead}
@@ -52,6 +53,17 @@ pub record Demand3 : Type 0 where
   pub counts : CallsCount
   -- D3.5, D3.6: added bytes change no entry but a closing refusal 1 and a last payload that was cut.
   pub added : AddedBytes
+  -- C7: payload skipped and statistics off, a filter only thins out: the same packets but for those that it does not take, and the same end ..
+  pub thins : FilterThins
+  -- .. of which a chain has one.
+  pub one-end : OneEnd
+  -- C8: it rests on this alone, from any state, that refusal 3 is met at no header that the filter does not take; it holds only then ..
+  pub thins-anywhere : FilterThinsAnywhere
+  pub thins-only-then : OnlyThen
+  -- .. the premise of C7, that no header is too small, gives it ..
+  pub premise-gives : PremiseGives
+  -- .. and without it no packet is lost.
+  pub none-lost : NoneLost
   -- D3.7: the replies to any list of checks on one validator follow from its settings and start, the headers and the buffers' lengths.
   pub verdicts : Follows
   -- D3.7: and checks that are made by their contract give these replies, and leave these texts in the buffers.

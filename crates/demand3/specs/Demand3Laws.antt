@@ -3,6 +3,9 @@ use Rattle.chain.specs.AddedBytesLaws.{added-bytes}
 use Rattle.chain.specs.CallsFollowLaws.{calls-follow, leaves-rest}
 use Rattle.chain.specs.ChainEntriesLaws.{allowance, entry-by-entry, only-entries, refused-last}
 use Rattle.chain.specs.CountedHeadersLaws.{calls-count}
+use Rattle.chain_filter.specs.EndLaws.{one-end}
+use Rattle.chain_filter.specs.FilterPartsLaws.{none-lost, only-then}
+use Rattle.chain_filter.specs.FilterThinsLaws.{filter-thins, filter-thins-anywhere, premise-gives}
 use Rattle.chain.specs.OwnPositionsLaws.{own-at-header, own-in-call, own-not-before, own-over-loads, own-unfiltered}
 use Rattle.chain.specs.PacketsLaws.{each-once, exactly-matching, matching-in-turn, none-missing, reaches-end}
 use Rattle.chain.specs.SkipsLaws.{each-skips-ahead}
@@ -35,6 +38,12 @@ demand-3 =
       own-not-before = own-not-before;
       counts = calls-count;
       added = added-bytes;
+      thins = filter-thins;
+      one-end = one-end;
+      thins-anywhere = filter-thins-anywhere;
+      thins-only-then = only-then;
+      premise-gives = premise-gives;
+      none-lost = none-lost;
       verdicts = follows;
       texts = texts-left;
       cases = marked-agree;

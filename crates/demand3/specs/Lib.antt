@@ -4,3 +4,4 @@ pub mod MarkedCasesLaws
 pub mod Demand3Claims
 pub mod Demand3Laws
 pub mod Example
+pub mod FilterExample

@@ -79,14 +79,14 @@ withPlace place s =
 abbrev pub withLent : Progress → (links triggers : List ℕ) → State
 withLent p links triggers = record { progress = p; links = links; triggers = triggers }
 
--- The state with no load open (S7).
-abbrev pub closed : State → State
-closed s =
+-- The state with this load open, or none, and with all else as it was.
+abbrev pub withLoad : OpenLoad → State → State
+withLoad load s =
     record {
       progress = record {
         place = s .progress .place;
         position = s .progress .position;
-        load = Load.None;
+        load = load;
         counts = s .progress .counts;
         «links_used» = s .progress .«links_used»;
         «fee_ids_used» = s .progress .«fee_ids_used»;
@@ -94,6 +94,10 @@ closed s =
       links = s .links;
       triggers = s .triggers;
     }
+
+-- The state with no load open (S7).
+abbrev pub closed : State → State
+closed = withLoad Load.None
 
 -- ---- step 1
 

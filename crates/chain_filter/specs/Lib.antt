@@ -1,0 +1,9 @@
+-- What is defined.
+pub mod Scanned
+-- What is stated.
+pub mod FilterThinsClaims
+-- Why it holds.
+pub mod EndLaws
+pub mod FilterStepLaws
+pub mod FilterThinsLaws
+pub mod FilterPartsLaws
