@@ -11,6 +11,7 @@
     make_cases.py triggers SEED COUNT   pairs of trigger statistics
     make_cases.py scans SEED            scans of every recording that make_recordings.py makes from the seed
     make_cases.py sweeps SEED           scans of a short recording, sound or damaged, cut at every length
+    make_cases.py thins SEED            scans of such recordings with payload skipped and statistics off, without a filter and then with several
     make_cases.py edges                 scans of two headers, an offset or a memory size of the first at its edges, with every filter
     make_cases.py bits                  scans of headers whose trigger words tell each bit from every other, up to each of them
     make_cases.py carry                 scans of 70,000 headers that bring the payload sum to 2^32 - 1, and past it
@@ -20,7 +21,7 @@ import random
 import sys
 from itertools import cycle, product
 
-from make_recordings import FIELDS, HEADER, LAYOUT, SOURCES, STAVES, WORDS, every, header, packet
+from make_recordings import FIELDS, HEADER, KINDS, LAYOUT, SOURCES, STAVES, WORDS, every, header, packet, undersized
 
 # How many bits each field of the header has, and values at which its test or its text changes.
 WIDTHS = dict(zip(FIELDS, (8 * {"B": 1, "H": 2, "I": 4, "Q": 8}[c] for c in LAYOUT.format if c in "BHIQ")))
@@ -208,10 +209,13 @@ def scans(seed):
 
 def some_reading(rng):
     """How often to load, and the windows and FEE places that are lent."""
-    return dict(
-        more=rng.choice([0, 1, 2, 9]), loads=rng.choice(6 * ["-"] + [rng.randrange(6)]),
-        window=rng.choice([0, 1, 64, 65, 100, 128, 1000, 8192, 65_536, rng.randrange(65_536)]),
-        back=rng.choice([0, 0, 1, 64, rng.randrange(256)]), places=rng.choice(20 * [4096] + [rng.randrange(12)]))
+    return dict(more=rng.choice([0, 1, 2, 9]), loads=rng.choice(6 * ["-"] + [rng.randrange(6)]), **some_windows(rng),
+                places=rng.choice(20 * [4096] + [rng.randrange(12)]))
+
+
+def some_windows(rng):
+    return dict(window=rng.choice([0, 1, 64, 65, 100, 128, 1000, 8192, 65_536, rng.randrange(65_536)]),
+                back=rng.choice([0, 0, 1, 64, rng.randrange(256)]))
 
 
 def print_scan(filters, **settings):
@@ -227,6 +231,35 @@ def sweeps(seed):
     sources = sources_in(recording)
     for length in range(len(recording) + 1):
         print_scan(some_filters(rng, sources), skip=rng.randrange(2), stats=rng.randrange(2), **some_reading(rng), length=length)
+
+
+def thins(seed):
+    for name, recording in every(seed, [*KINDS, undersized]):
+        rng = random.Random(f"thins {name} {seed}")
+        print("#", name)
+        print_recording(recording)
+        for filters in [{}, *filters_that_thin(rng, sources_in(recording) or SOURCES)]:
+            print_scan(filters, skip=1, stats=0, **some_windows(rng))
+
+
+def filters_that_thin(rng, sources):
+    """By a link, a FEE id and a stave of these sources, and a stave with the bits of another uplink; several at once, of which the first
+    decides; and one that takes none of the sources."""
+    fee_ids, links = zip(*(rng.choice(sources) for _ in range(6)))
+    single = [dict(link=links[0]), dict(fee=fee_ids[1]), dict(stave=fee_ids[2]), dict(stave=fee_ids[3] ^ rng.choice([0x0100, 0x0200, 0x0300]))]
+    behind_link = rng.choice([dict(fee=fee_ids[0]), dict(stave=fee_ids[1]), dict(fee=fee_ids[0], stave=fee_ids[1])])
+    return [*single, dict(link=links[4]) | behind_link, dict(fee=fee_ids[5], stave=fee_ids[2]), no_source(rng, sources)]
+
+
+def no_source(rng, sources):
+    """A filter by a number that no source has."""
+    fee_ids, links = zip(*sources)
+    name, bits, mask, taken = rng.choice([("link", 8, 0xFF, links), ("fee", 16, 0xFFFF, fee_ids), ("stave", 16, 0x703F, fee_ids)])
+    taken = {number & mask for number in taken}
+    number = rng.getrandbits(bits)
+    while number & mask in taken:
+        number = rng.getrandbits(bits)
+    return {name: number}
 
 
 def edges():
@@ -264,7 +297,7 @@ def main(words):
     match words:
         case ["headers" | "verdicts" | "words" | "lengths" | "names" | "triggers" as kind, seed, count]:
             globals()[kind](random.Random(f"{kind} {seed}"), int(count))
-        case ["scans" | "sweeps" as kind, seed]:
+        case ["scans" | "sweeps" | "thins" as kind, seed]:
             globals()[kind](int(seed))
         case ["fees" | "staves" | "edges" | "bits" | "carry" | "wrap" as kind]:
             globals()[kind]()

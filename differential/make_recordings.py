@@ -163,12 +163,22 @@ def trigger_words(rng):
     return [b"".join(packet(rng, HEADER, trigger=word) for word in rng.sample(words, len(words))) for words in (below, above, WORDS, some, ones)]
 
 
+def undersized(rng):
+    """Memory sizes below 64 among others, so that a filter may pass a header at which a scan without one is refused; then nothing, a bad offset,
+    or a cut. Only the cases on filters that thin out have these."""
+    made = []
+    for end in (b"", packet(rng, HEADER, offset=63), packet(rng, HEADER)[:-1], packet(rng, 200)[:100]):
+        some = [dict(memory=rng.randrange(HEADER)) if rng.random() < 0.3 else {} for _ in range(rng.randrange(3, 12))]
+        made.append(b"".join(packet(rng, some_size(rng), **fields) for fields in some) + end)
+    return made
+
+
 KINDS = [sound, longest, many_sources, gaps, memory_sizes, offsets, stumbles, cuts, short, flipped, noise, trigger_words]
 
 
-def every(seed):
+def every(seed, kinds=KINDS):
     """Name and bytes of each recording that the seed makes."""
-    for kind in KINDS:
+    for kind in kinds:
         made = kind(random.Random(f"{kind.__name__} {seed}"))
         for i, recording in enumerate(made):
             yield f"{kind.__name__}-{i}", recording
