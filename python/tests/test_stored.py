@@ -20,7 +20,7 @@ class Stored(unittest.TestCase):
             self.assertEqual(found[number], expected[number], f"case {number + 1} of {asked}: {put[number]}")
 
     def test_the_answers_of_the_rust(self):
-        self.replay("rust_cases.txt", "rust_answers.txt", 2087)
+        self.replay("rust_cases.txt", "rust_answers.txt", 2172)
 
     def test_the_answers_of_the_model(self):
         self.replay("model_cases.txt", "model_answers.txt", 1925)
