@@ -1,7 +1,7 @@
 -- One step of a quick look without a filter, and with one, at the same byte place: by one split, what becomes of the header with both; and from
 -- it where the two are alike, and where they part. Which headers the filter takes does not matter.
 use Prim.Native.Nat.{ℕ, _+_, _≤_}
-use mathlib.Core.Bool.{Bool, true, false, true≢false, false≢true}
+use mathlib.Core.Bool.{Bool, true, false, _&&_, true≢false, false≢true}
 use mathlib.Core.Path.{_≡_, refl, ap, sym, subst₂, _∙_}
 use mathlib.Core.List.{List, [], _∷_, _++_, flatMap, map}
 use native.Mathlib.Omega.{arith}
@@ -12,7 +12,7 @@ use Rattle.basis.specs.Refusals.{refuses}
 use Rattle.filter.specs.declared.FilterOpt.{FilterOpt}
 use Rattle.rdh.specs.declared.rdh_cru.RdhCru.{RdhCru}
 use Rattle.serde_rdh.specs.Layout.{decoded}
-use Rattle.scan_cdp.specs.Outcomes.{badMemorySize, badOffset, filtered, isMatch, memorySize, offset, outcomeOf}
+use Rattle.scan_cdp.specs.Outcomes.{badMemorySize, badOffset, feeId, filtered, isMatch, memorySize, offset, outcomeOf}
 use Rattle.scan_cdp.specs.SkipDistanceLaws.{GoodOffset, good-offset}
 use Rattle.scan_cdp.specs.Steps.{Entry, cut, ended, entryOf, isFirst, marksOf, outcomeIn, payloadOf, placeAfter, placesListed, progressAfter, raised, startOf, step, tallied, triggersAfter, unchanged, unusable, usedListed, withLoad}
 use Rattle.scan_cdp.specs.declared.OpenLoad.{OpenLoad}
@@ -21,6 +21,7 @@ use Rattle.scan_cdp.specs.declared.Outcome.the-variants.{BadOffset, MemorySize,
 use Rattle.scan_cdp.specs.declared.Position.{Position}
 use Rattle.scan_cdp.specs.declared.State.{State}
 use Rattle.scan_laws.specs.Runs.{isRefusal}
+use Rattle.stats.specs.Lists.{full}
 use Rattle.chain.specs.Chain.{Kept, isLast, left}
 use Rattle.chain.specs.OwnPositions.{openAt, positionOf}
 use Rattle.chain.specs.PacketLists.{Packet, packetIn}
@@ -38,10 +39,16 @@ abbrev outcomeBy : Bool → RdhCru → Outcome
 outcomeBy is-taken h =
     pick (badOffset (offset h)) BadOffset (pick is-taken (pick (badMemorySize (memorySize h)) MemorySize HandedOut) Passed)
 
+-- With statistics off no FEE list is full.
+none-full : (filters : FilterOpt) (k : Kept) (h : RdhCru)
+    → (quick filters .stats && full (feeId h) (k .state .progress .«fee_ids_used») (k .feeIds)) ≡ false
+none-full filters k h = refl
+
 outcome-by : (filters : FilterOpt) (k : Kept) (h : RdhCru)
     → outcomeIn (quick filters) (k .state .progress) (k .feeIds) h ≡ outcomeBy (isMatch (quick filters) h) h
 unfolding outcomeIn outcomeOf filtered
-outcome-by filters k h = by-first (isFirst (openAt k))
+outcome-by filters k h =
+    ap (λ (b : Bool). outcomeOf (quick filters) (isFirst (openAt k)) b h) (none-full filters k h) ∙ by-first (isFirst (openAt k))
   where
     by-first : (first : Bool) → outcomeOf (quick filters) first false h ≡ outcomeBy (isMatch (quick filters) h) h
     by-first true = refl

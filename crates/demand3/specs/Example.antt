@@ -11,8 +11,6 @@ use lib.ListN.{drop, replicate, take}
 use Rattle.basis.specs.Bytes.{bytesOf, little, numberAt}
 use Rattle.basis.specs.Pick.{pick}
 use Rattle.basis.specs.Refusals.{Answer, gives, refuses}
-use Rattle.filter.specs.declared.Option8.the-variants as Option8
-use Rattle.filter.specs.declared.Option16.the-variants as Option16
 use Rattle.serde_rdh.specs.Layout.{decoded, header, span}
 use Rattle.scan_cdp.specs.Answers.{Found, passed, wants}
 use Rattle.scan_cdp.specs.Loads.{loaded, loadedFrom, together}
@@ -32,6 +30,7 @@ use Rattle.chain.specs.CountedHeadersClaims.{after}
 use Rattle.chain.specs.Following.{entriesOf, keptAfter, repliesOf}
 use Rattle.chain.specs.OwnPositions.{WholeLoad, offsets, wholeLoads}
 use Rattle.chain.specs.Walk.{Met, walk, walkAlong}
+use Rattle.chain_filter.specs.Scanned.{byFee, byLink, noFilter, quick}
 use Rattle.demand3.specs.MarkedCasesLaws.{_then_}
 use Rattle.demand3.specs.MarkedCases.{givenAt, plain, sample}
 
@@ -96,16 +95,11 @@ alone n = sample 0x502A n 0 0x4813
 
 -- Payload skipped, statistics off. With no filter the header is handed out ..
 abbrev handing : Settings
-handing = record { filter = plain .filter; «skip_payload» = true; stats = false }
+handing = quick noFilter
 
 -- .. and where link 1 is asked for, it is passed: it is of link 2.
 abbrev passing : Settings
-passing =
-    record {
-      filter = record { «filter_link» = Option8.Some 1; «filter_fee» = Option16.None; «filter_its_stave» = Option16.None };
-      «skip_payload» = true;
-      stats = false;
-    }
+passing = quick (byLink 1)
 
 -- What a chain skips: for each entry that is not refused its answer, and the distance of its header.
 abbrev skips : List ℕ → Settings → List (Answer (Found (List ℕ)) × ℤ)
@@ -130,12 +124,7 @@ unfoldable pub three : List ℕ
 three = sample 0x502A 80 0 0x4813 ++ replicate 16 0 ++ recording
 
 abbrev last-fee : Settings
-last-fee =
-    record {
-      filter = record { «filter_link» = Option8.None; «filter_fee» = Option16.Some 0x3006; «filter_its_stave» = Option16.None };
-      «skip_payload» = true;
-      stats = false;
-    }
+last-fee = quick (byFee 0x3006)
 
 -- One load in three calls: a load that passes the first header and wants the second, an examination that passes that, and a load.
 pub one-load : List Call
