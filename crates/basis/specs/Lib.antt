@@ -1,5 +1,6 @@
 pub mod Pick
 pub mod PickLaws
+pub mod Each
 pub mod Refusals
 pub mod Bits
 pub mod Bytes

@@ -5,6 +5,7 @@ use mathlib.Core.Path.{_≡_}
 use mathlib.Core.List.{List, [], _∷_}
 use lib.Dec.{eqb, ltb}
 use lib.ListN.{length, take, drop}
+use Rattle.basis.specs.Each.{Each}
 use Rattle.basis.specs.Pick.{pick}
 use Rattle.basis.specs.Refusals.{Answer, gives, refuses}
 use Rattle.scan_cdp.specs.Answers.{Found, answerAs, handed, passed, wants}
@@ -18,7 +19,7 @@ use Rattle.scan_cdp.specs.declared.Settings.{Settings}
 use Rattle.scan_laws.specs.Runs.{oneToFour}
 use Rattle.chain.specs.Chain.{Kept, left}
 use Rattle.chain.specs.Following as Following
-use Rattle.chain.specs.Following.{Each, cutInto, keptAfter, leftOver, oneEnds, repliesOf}
+use Rattle.chain.specs.Following.{cutInto, keptAfter, leftOver, oneEnds, repliesOf}
 
 -- ---- calls
 

@@ -7,6 +7,7 @@ use native.Mathlib.Omega.{arith}
 use borrow.Author.Tests.{eqb-true, ltb-false, ltb-true}
 use lib.Dec.{eqb, ltb}
 use lib.ListN.{length, drop, length-append}
+use Rattle.basis.specs.Each.{Each}
 use Rattle.basis.specs.Pick.{pick}
 use Rattle.basis.specs.PickLaws.{by-test, on}
 use Rattle.rdh.specs.declared.rdh_cru.RdhCru.{RdhCru}
@@ -31,7 +32,7 @@ use Rattle.chain.specs.Chain.{Kept, chain, left, placeOf}
 use Rattle.chain.specs.GatheredLaws.{each-part, gathered-both}
 use Rattle.chain.specs.CountedHeaders.{carriesIn, carriesOf, countedHeaders, countedIn, countedWords, isCountedBy, seenOf, triggersOf}
 use Rattle.chain.specs.CountedHeadersClaims.{CallsCount, after}
-use Rattle.chain.specs.Following.{Each, cutInto, keptAfter, leftOver}
+use Rattle.chain.specs.Following.{cutInto, keptAfter, leftOver}
 use Rattle.chain.specs.OwnPositions.{openAt}
 use Rattle.chain.specs.Walk.{Met, headerAt, met, walk, walkAlong}
 use Rattle.chain.specs.WalkLaws.{each-met}

@@ -58,8 +58,3 @@ module _ {Kept Call Entry Reply : Type 0} (servedBy : Kept → Call → Entry �
   leftOver k (c ∷ cs) (e ∷ es) =
       let o = servedBy k c e es in
       leftOver (keptBy (o .reply)) cs (o .rest)
-
--- All of a list have a property.
-abbrev pub Each : {A : Type 0} → (A → Type 0) → List A → Type 0
-Each P [] = Unit {0}
-Each P (x ∷ xs) = P x × Each P xs

@@ -2,9 +2,10 @@
 use mathlib.Core.Bool.{Bool, true, false, _||_}
 use mathlib.Core.Path.{_≡_, refl, ap, sym, _∙_}
 use mathlib.Core.List.{List, [], _∷_}
+use Rattle.basis.specs.Each.{Each}
 use Rattle.basis.specs.Pick.{pick}
 use Rattle.basis.specs.PickLaws.{on}
-use Rattle.chain.specs.Following.{Each, Served, cutInto, keptAfter, leftOver, oneEnds, repliesOf}
+use Rattle.chain.specs.Following.{Served, cutInto, keptAfter, leftOver, oneEnds, repliesOf}
 
 -- Where the chain is an entry and what is behind it, and where each call serves that as it replies, with the chain from where it left off
 -- still to come unless it ended it, all calls follow the chain.

@@ -1,7 +1,7 @@
 -- Laws of what is gathered along a list: of two lists behind one another, of what was gathered before, and of two lists member by member.
 use mathlib.Core.Path.{_≡_, refl, ap, sym, _∙_}
 use mathlib.Core.List.{List, [], _∷_, _++_, append-assoc, flatMap, map, map-append}
-use Rattle.chain.specs.Following.{Each}
+use Rattle.basis.specs.Each.{Each}
 
 -- What holds of each of two lists behind one another holds of each of both.
 pub each-part : {A : Type 0} (P : A → Type 0) (xs ys : List A) → Each P (xs ++ ys) → Each P xs × Each P ys

@@ -3,12 +3,12 @@ use Prim.Native.Nat.{ℕ, _+_, _≤_}
 use mathlib.Core.Bool.{true, false}
 use mathlib.Core.Path.{_≡_}
 use mathlib.Core.List.{List, [], _++_, map}
+use Rattle.basis.specs.Each.{Each}
 use Rattle.filter.specs.Filter.{enabled}
 use Rattle.scan_cdp.specs.Steps.{isFirst}
 use Rattle.scan_cdp.specs.declared.Settings.{Settings}
 use Rattle.chain.specs.Calls.{Call, WindowOf, Windows, replies, replyAnswer, replyTo, toCome, windowOf}
 use Rattle.chain.specs.Chain.{Kept, chain}
-use Rattle.chain.specs.Following.{Each}
 use Rattle.chain.specs.OwnPositions.{WholeLoad, openAt, loadStart, offsets, passedFirst, positionOf, wholeLoads}
 use Rattle.chain.specs.PacketLists.{Packet, packetIn, packetsIn, packetsOf}
 use Rattle.chain.specs.Walk.{Met, walk}

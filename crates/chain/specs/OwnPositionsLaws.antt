@@ -4,6 +4,7 @@ use mathlib.Core.Bool.{true, false, true≢false, false≢true}
 use mathlib.Core.Path.{_≡_, refl, ap, sym, subst, _∙_}
 use mathlib.Core.List.{List, [], _∷_, _++_, flatMap, map}
 use native.Mathlib.Omega.{arith}
+use Rattle.basis.specs.Each.{Each}
 use Rattle.basis.specs.Pick.{pick}
 use Rattle.basis.specs.PickLaws.{off, on}
 use Rattle.basis.specs.Refusals.{Answer, gives, refuses}
@@ -20,7 +21,7 @@ use Rattle.scan_cdp.specs.declared.Settings.{Settings}
 use Rattle.chain.specs.Calls.{replies, replyAnswer, replyTo, toCome}
 use Rattle.chain.specs.Chain.{Kept, chain, isRefused, left, next}
 use Rattle.chain.specs.ChainLaws.{chain-induction, chain-unfolds}
-use Rattle.chain.specs.Following.{Each, repliesOf}
+use Rattle.chain.specs.Following.{repliesOf}
 use Rattle.chain.specs.GatheredLaws.{each-part}
 use Rattle.chain.specs.LoadLaws.{not-refused}
 use Rattle.chain.specs.NextLaws.{PassedBy, Tells, next-tells}

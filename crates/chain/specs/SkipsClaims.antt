@@ -4,12 +4,12 @@ use mathlib.Core.Bool.{true, false, _||_}
 use mathlib.Core.Path.{_≡_}
 use mathlib.Core.List.{List}
 use lib.IntN.{pos, _+ℤ_}
+use Rattle.basis.specs.Each.{Each}
 use Rattle.scan_cdp.specs.Loads.{isPassed}
 use Rattle.scan_cdp.specs.Outcomes.{offset, skipDistance}
 use Rattle.scan_cdp.specs.SkipDistanceClaims.{inReach}
 use Rattle.scan_cdp.specs.declared.Settings.{Settings}
 use Rattle.chain.specs.Chain.{Kept, isRefused, left, placeOf}
-use Rattle.chain.specs.Following.{Each}
 use Rattle.chain.specs.Walk.{Met, walk}
 
 -- The header's distance lies in 0 to 10,000. The position grows by 64 and it, and so does the place unless payload is read (S3, S5).

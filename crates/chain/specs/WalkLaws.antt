@@ -4,12 +4,12 @@ use Prim.Native.Nat.{ℕ}
 use mathlib.Core.Bool.{Bool, true, false}
 use mathlib.Core.Path.{_≡_, refl, ap, sym, subst, _∙_}
 use mathlib.Core.List.{List, [], _∷_, _++_, flatMap, map}
+use Rattle.basis.specs.Each.{Each}
 use Rattle.basis.specs.Pick.{pick}
 use Rattle.scan_cdp.specs.Steps.{Entry}
 use Rattle.scan_cdp.specs.declared.Settings.{Settings}
 use Rattle.chain.specs.Chain.{Kept, chain, isRefused, left, next}
 use Rattle.chain.specs.ChainLaws.{chain-induction, chain-unfolds}
-use Rattle.chain.specs.Following.{Each}
 use Rattle.chain.specs.Walk.{Met, met, walk, walkAlong}
 
 -- The entries of a walk are those that it goes along.

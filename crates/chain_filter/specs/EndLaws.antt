@@ -5,6 +5,7 @@ use mathlib.Core.Path.{_≡_, refl, ap, sym, subst, _∙_}
 use mathlib.Core.List.{List, [], _∷_, _++_, flatMap}
 use native.Mathlib.Omega.{arith}
 use lib.ListN.{length, drop}
+use Rattle.basis.specs.Each.{Each}
 use Rattle.basis.specs.Pick.{pick}
 use Rattle.basis.specs.PickLaws.{off}
 use Rattle.rdh.specs.declared.rdh_cru.RdhCru.{RdhCru}
@@ -17,7 +18,6 @@ use Rattle.scan_laws.specs.StepLaws.{step-cases}
 use Rattle.chain.specs.CallsLaws.{entry-ends}
 use Rattle.chain.specs.Chain.{Kept, chain, isLast, left, next, placeOf}
 use Rattle.chain.specs.ChainLaws.{chain-induction, gathered-next}
-use Rattle.chain.specs.Following.{Each}
 use Rattle.chain.specs.OwnPositions.{positionOf}
 use Rattle.chain.specs.TellingLaws.{Telling}
 use Rattle.chain.specs.Walk.{headerAt}

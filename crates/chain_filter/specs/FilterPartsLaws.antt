@@ -6,6 +6,7 @@ use mathlib.Core.Path.{_≡_, refl, ap, sym, subst, _∙_}
 use mathlib.Core.List.{List, [], _∷_, _++_, append-assoc, append-nil, flatMap, map}
 use native.Mathlib.Omega.{arith}
 use lib.ListN.{length, drop}
+use Rattle.basis.specs.Each.{Each}
 use Rattle.basis.specs.PickLaws.{by-test}
 use Rattle.basis.specs.Refusals.{Answer, gives, refuses}
 use Rattle.filter.specs.declared.FilterOpt.{FilterOpt}
@@ -18,7 +19,6 @@ use Rattle.scan_laws.specs.RowLaws.{either}
 use Rattle.scan_laws.specs.Runs.{isRefusal}
 use Rattle.chain.specs.Chain.{Kept, chain, isLast, isRefused, left, next, placeOf}
 use Rattle.chain.specs.ChainLaws.{chain-induction, gathered-next}
-use Rattle.chain.specs.Following.{Each}
 use Rattle.chain.specs.GatheredLaws.{gathered-as}
 use Rattle.chain.specs.OwnPositions.{openAt}
 use Rattle.chain.specs.PacketLists.{Packet, packetIn}

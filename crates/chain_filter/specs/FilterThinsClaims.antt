@@ -5,6 +5,7 @@ use mathlib.Core.Path.{_≡_}
 use mathlib.Core.List.{List, _++_}
 use lib.Dec.{eqb}
 use lib.ListN.{length}
+use Rattle.basis.specs.Each.{Each}
 use Rattle.filter.specs.declared.FilterOpt.{FilterOpt}
 use Rattle.its.specs.FeeIds.{sameStave}
 use Rattle.rdh.specs.declared.rdh_cru.RdhCru.{RdhCru}
@@ -13,7 +14,6 @@ use Rattle.scan_cdp.specs.declared.Settings.{Settings}
 use Rattle.scan_laws.specs.Runs.{isRefusal}
 use Rattle.chain.specs.Calls.{Call, Windows, chainEnded, replies}
 use Rattle.chain.specs.Chain.{Kept, chain}
-use Rattle.chain.specs.Following.{Each}
 use Rattle.chain.specs.PacketLists.{Packet}
 use Rattle.chain.specs.Walk.{Met, walk}
 use Rattle.chain_filter.specs.Scanned.{Scanned, byFee, byLink, byStave, exceptStarts, headersMet, lookAlong, lookBy, newWith, noFilter, quick, scannedIn, thinned}

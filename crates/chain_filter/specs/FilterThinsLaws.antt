@@ -8,6 +8,7 @@ use native.Mathlib.Omega.{arith}
 use borrow.Author.Tests.{eqb-true}
 use lib.Dec.{eqb}
 use lib.ListN.{length, drop}
+use Rattle.basis.specs.Each.{Each}
 use Rattle.basis.specs.Pick.{pick}
 use Rattle.basis.specs.PickLaws.{off}
 use Rattle.basis.specs.Refusals.{Answer, gives, refuses}
@@ -25,7 +26,6 @@ use Rattle.scan_laws.specs.Runs.{closes, isRefusal}
 use Rattle.scan_laws.specs.StepLaws.{step-cases}
 use Rattle.chain.specs.Calls.{Call, Windows, chainEnded, replies}
 use Rattle.chain.specs.Chain.{Kept, chain, chainOf, isLast, left, next, placeOf}
-use Rattle.chain.specs.Following.{Each}
 use Rattle.chain.specs.GatheredLaws.{Pairwise, each-part, gathered-alike, gathered-as, gathered-twice}
 use Rattle.chain.specs.InStepLaws.{BothStep, in-step}
 use Rattle.chain.specs.OwnPositions.{openAt}
