@@ -4,9 +4,12 @@ use Rattle.chain.specs.CallsFollowClaims.{CallsFollow, LeavesRest}
 use Rattle.chain.specs.ChainEntriesClaims.{Allowance, EntryByEntry, OnlyEntries, RefusedLast}
 use Rattle.chain.specs.CountedHeadersClaims.{CallsCount}
 use Rattle.chain_filter.specs.FilterThinsClaims.{FilterThins, FilterThinsAnywhere, NoneLost, OneEnd, OnlyThen, PremiseGives}
+use Rattle.chain_filter.specs.LinkThinnedClaims.{LinkThinned}
 use Rattle.chain.specs.OwnPositionsClaims.{OwnAtHeader, OwnInCall, OwnNotBefore, OwnOverLoads, OwnUnfiltered}
 use Rattle.chain.specs.PacketsClaims.{EachOnce, ExactlyMatching, MatchingInTurn, NoneMissing, ReachesEnd}
 use Rattle.chain.specs.SkipsClaims.{EachSkipsAhead}
+use Rattle.link_continuity.specs.ArraysClaims.{CallsAsDefined}
+use Rattle.link_continuity.specs.ContinuityClaims.{LastIsKept, LinksApart, LostTold, OneLostTold, OwnHeadersAlone, UnflaggedIfInOrder}
 use Rattle.scan_laws.specs.LoadRepliesClaims.{LoadsTellAll}
 use Rattle.validators.specs.VerdictTextsClaims.{TextsLeft}
 use Rattle.validators.specs.VerdictsClaims.{Follows}
@@ -64,6 +67,20 @@ pub record Demand3 : Type 0 where
   pub premise-gives : PremiseGives
   -- .. and without it no packet is lost.
   pub none-lost : NoneLost
+  -- M1: checks on the links' arrays, one after the other, yield and keep what the definition of all links says.
+  pub link-checks : CallsAsDefined
+  -- M5: what a link yields, and then keeps, depends only on its own headers in their order, and on what was kept of it.
+  pub links-apart : LinksApart
+  pub own-headers : OwnHeadersAlone
+  -- M6: after any headers a link keeps the values of its last one or, with none, what it kept before.
+  pub last-kept : LastIsKept
+  -- M7: no header of a link has a flag exactly if they run on.
+  pub unflagged : UnflaggedIfInOrder
+  -- M8: a packet that was lost is told at the header behind it, with distance 1, and any number of them modulo 256.
+  pub one-lost : OneLostTold
+  pub lost : LostTold
+  -- M9: where a filter by link thins out (C7), the link yields what it yields without the filter.
+  pub link-thinned : LinkThinned
   -- D3.7: the replies to any list of checks on one validator follow from its settings and start, the headers and the buffers' lengths.
   pub verdicts : Follows
   -- D3.7: and checks that are made by their contract give these replies, and leave these texts in the buffers.

@@ -30,9 +30,9 @@ yielded links [] = []
 yielded links (h ∷ hs) = yieldsOn links h ∷ yielded (linksAfter links h) hs
 
 -- What is kept after them.
-unfoldable pub keptAfter : Links → List RdhCru → Links
-keptAfter links [] = links
-keptAfter links (h ∷ hs) = keptAfter (linksAfter links h) hs
+unfoldable pub linksAfterAll : Links → List RdhCru → Links
+linksAfterAll links [] = links
+linksAfterAll links (h ∷ hs) = linksAfterAll (linksAfter links h) hs
 
 -- Something of a header, if it is one of this link.
 abbrev pub ifOn : {A : Type 0} → ℕ → RdhCru → A → List A

@@ -2,7 +2,7 @@
 // asks puts the headers that a scan hands out, one after the other.
 ghost use mathlib.Core.Path.{_≡_};
 ghost use Rattle.link_continuity.specs.Arrays.{arrays, arraysAfter, keptOf, linksOf};
-ghost use Rattle.link_continuity.specs.Link.{behind, lastOf, nextPagesCounter, stops, yields};
+ghost use Rattle.link_continuity.specs.Link.{behind, lastOf, nextPacketCounter, nextPagesCounter, stops, yields};
 ghost use Rattle.link_continuity.specs.Links.{yieldsOn};
 use rdh::rdh_cru::RdhCru;
 
@@ -51,26 +51,36 @@ fn is_stop(last: LastHeader) -> bool
     last.stop_bit != 0
 }
 
-// The pages counter that must come behind the last header: 0 behind a stop.
+// The packet counter that must come behind the last header: 0 behind 255.
+fn next_packet_counter(last: LastHeader) -> u8
+    ensures { λ r. ⌜ r ≡ nextPacketCounter last ⌝ }
+{
+    std::num::wrapping_add_u8(last.packet_counter, 1)
+}
+
+// The pages counter that must come behind the last header: 0 behind 65,535, and behind a stop.
 fn next_pages_counter(last: LastHeader) -> u16
     ensures { λ r. ⌜ r ≡ nextPagesCounter last ⌝ }
 {
+    let next = std::num::wrapping_add_u16(last.pages_counter, 1);
     if is_stop(last) {
         return 0;
     }
-    std::num::wrapping_add_u16(last.pages_counter, 1)
+    next
 }
 
 // What the values of a header yield behind those of the last one.
 fn check_behind(last: LastHeader, new: LastHeader) -> LinkCheck
     ensures { λ r. ⌜ r ≡ behind last new ⌝ }
 {
-    let expected = std::num::wrapping_add_u8(last.packet_counter, 1);
-    let distance = std::num::wrapping_sub_u8(new.packet_counter, expected);
+    let packet_counter = next_packet_counter(last);
+    let pages_counter = next_pages_counter(last);
+    let stopped = is_stop(last);
+    let distance = std::num::wrapping_sub_u8(new.packet_counter, packet_counter);
     LinkCheck {
-        packet_counter: new.packet_counter != expected,
-        pages_counter: new.pages_counter != next_pages_counter(last),
-        orbit: !is_stop(last) & (new.orbit != last.orbit),
+        packet_counter: new.packet_counter != packet_counter,
+        pages_counter: new.pages_counter != pages_counter,
+        orbit: !stopped & (new.orbit != last.orbit),
         distance,
     }
 }
