@@ -138,10 +138,11 @@ pub fn check_link(
         stop_bit: stop_bits[link],
     };
     let check = check_one(kept_of(seen[link], last), rdh);
+    let new = last_of(rdh);
     seen[link] = 1;
-    packet_counters[link] = rdh.packet_counter;
-    pages_counters[link] = rdh.rdh2.pages_counter;
-    orbits[link] = rdh.rdh1.orbit;
-    stop_bits[link] = rdh.rdh2.stop_bit;
+    packet_counters[link] = new.packet_counter;
+    pages_counters[link] = new.pages_counter;
+    orbits[link] = new.orbit;
+    stop_bits[link] = new.stop_bit;
     check
 }

@@ -1,5 +1,5 @@
 -- The check of the header that C's struct is.
-use mathlib.Core.Path.{ap, _∙_}
+use mathlib.Core.Path.{_≡_, ap, _∙_}
 use borrow.Author.Needs.{needs}
 use Rattle.rdh.specs.declared.rdh_cru.RdhCru.{RdhCru}
 use Rattle.link_continuity.specs.Arrays.{LinkArrays, arrays, arraysAfter, linksOf}
@@ -24,9 +24,10 @@ returns c =
     let args = asked .before .args in
     let lent : LinkArrays = arrays (args .seen .now) (args .packet-counters .now) (args .pages-counters .now) (args .orbits .now) (args .stop-bits .now) in
     let header = asked .header-of .ensures in
-    let made = called .check-link .ensures in (
-      c .plain-link-check .ensures ∙ ap plainLinkCheck (made .0 ∙ ap (λ (h : RdhCru). yieldsOn (linksOf lent) h) header),
-      made .1 ∙ ap (λ (h : RdhCru). arraysAfter lent h) header,
+    let rdh : RdhCru = asked .header-of .result in
+    let yields : called .check-link .result ≡ yieldsOn (linksOf lent) rdh = called .check-link .ensures .0 in (
+      c .plain-link-check .ensures ∙ ap plainLinkCheck (yields ∙ ap (λ (h : RdhCru). yieldsOn (linksOf lent) h) header),
+      called .check-link .ensures .1 ∙ ap (λ (h : RdhCru). arraysAfter lent h) header,
     )
 
 pub kesarimbu-check-link-spec : {M : Type 1} → statement M

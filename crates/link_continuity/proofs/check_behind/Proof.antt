@@ -34,9 +34,11 @@ returns c =
     let counted = paged .before in
     let args = counted .before .args in
     let expected : counted .next-packet-counter .result ≡ nextPacketCounter (args .last) = counted .next-packet-counter .ensures in
+    let gives : (apart .wrapping-sub-u8 .result + counted .next-packet-counter .result) % 256 ≡ args .new .«packet_counter» =
+    omega (arith, apart .wrapping-sub-u8 .ensures) in
     let difference =
     minus (apart .wrapping-sub-u8 .result) (args .new .«packet_counter») (counted .next-packet-counter .result) (omega arith) (omega arith)
-    (apart .wrapping-sub-u8 .ensures) in
+    gives in
     λ i. record {
       «packet_counter» = not (eqb (args .new .«packet_counter») (expected i));
       «pages_counter» = not (eqb (args .new .«pages_counter») (paged .next-pages-counter .ensures i));
