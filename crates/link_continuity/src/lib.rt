@@ -86,7 +86,7 @@ fn check_behind(last: LastHeader, new: LastHeader) -> LinkCheck
 }
 
 // What a header yields on a link of which this is kept. The first header of a link is taken as it comes.
-pub fn check_one(kept: LinkKept, rdh: RdhCru) -> LinkCheck
+pub fn check_kept(kept: LinkKept, rdh: RdhCru) -> LinkCheck
     ensures { λ r. ⌜ r ≡ yields kept rdh ⌝ }
 {
     match kept {
@@ -137,7 +137,7 @@ pub fn check_link(
         orbit: orbits[link],
         stop_bit: stop_bits[link],
     };
-    let check = check_one(kept_of(seen[link], last), rdh);
+    let check = check_kept(kept_of(seen[link], last), rdh);
     let new = last_of(rdh);
     seen[link] = 1;
     packet_counters[link] = new.packet_counter;

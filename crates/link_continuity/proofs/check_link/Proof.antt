@@ -39,8 +39,8 @@ element-copy-out-kept-of-2 c = search needs
 kept-of-requires : tie.Need-kept-of-requires
 kept-of-requires c κs = search needs
 
-check-one-requires : tie.Need-check-one-requires
-check-one-requires c κs = search needs
+check-kept-requires : tie.Need-check-kept-requires
+check-kept-requires c κs = search needs
 
 last-of-requires : tie.Need-last-of-requires
 last-of-requires c κs = search needs
@@ -89,7 +89,7 @@ returns c =
     let args = read .before .args in
     let lent : LinkArrays =
     arrays (args .seen .now) (args .packet-counters .now) (args .pages-counters .now) (args .orbits .now) (args .stop-bits .now) in (
-      checked .check-one .ensures ∙ ap (λ (k : LinkKept). yields k (args .rdh)) (said .kept-of .ensures),
+      checked .check-kept .ensures ∙ ap (λ (k : LinkKept). yields k (args .rdh)) (said .kept-of .ensures),
       written lent (args .rdh) (c .last-of .result) (c .last-of .ensures) refl refl refl refl refl,
     )
 
@@ -106,7 +106,7 @@ check-link-spec =
     element-copy-out-t24
     element-copy-out-kept-of-2
     kept-of-requires
-    check-one-requires
+    check-kept-requires
     last-of-requires
     element-write-seen
     element-write-packet-counters

@@ -2,8 +2,8 @@
 use mathlib.Core.Path.{ap, refl, _∙_}
 use borrow.Author.Needs.{needs}
 use Rattle.link_continuity.specs.Link.{behind, yields}
-use Rattle.link_continuity.proofs.check_one.Statement.{statement}
-use Rattle.link_continuity.proofs.check_one.Tie as tie
+use Rattle.link_continuity.proofs.check_kept.Statement.{statement}
+use Rattle.link_continuity.proofs.check_kept.Tie as tie
 
 enum-told : tie.Need-enum-told
 enum-told c = search needs
@@ -28,8 +28,8 @@ returns-2 c =
     rw (known .kept .given .1)
     (c .check-behind .ensures ∙ ap (behind (known .kept .given .0 .0)) (c .before .last-of .ensures))
 
-pub check-one-spec : {M : Type 1} → statement M
-check-one-spec =
+pub check-kept-spec : {M : Type 1} → statement M
+check-kept-spec =
     tie.close
     (tie.spec
     enum-told
