@@ -33,11 +33,14 @@ pub extern "C" fn kesarimbu_check_link(
         ≡ plainLinkCheck
         (yieldsOn
         (linksOf
-        (arrays (now (seen .entry)) (now («packet_counters» .entry)) (now («pages_counters» .entry)) (now (orbits .entry)) (now («stop_bits» .entry))))
+        (arrays (now (seen .entry)) (now («packet_counters» .entry)) (now («pages_counters» .entry))
+        (now (orbits .entry)) (now («stop_bits» .entry))))
         (headerOf header)) ⌝ }
-    ensures keeps { λ _. ⌜ arrays (now (seen .exit)) (now («packet_counters» .exit)) (now («pages_counters» .exit)) (now (orbits .exit)) (now («stop_bits» .exit))
+    ensures keeps { λ _. ⌜ arrays (now (seen .exit)) (now («packet_counters» .exit)) (now («pages_counters» .exit))
+        (now (orbits .exit)) (now («stop_bits» .exit))
         ≡ arraysAfter
-        (arrays (now (seen .entry)) (now («packet_counters» .entry)) (now («pages_counters» .entry)) (now (orbits .entry)) (now («stop_bits» .entry)))
+        (arrays (now (seen .entry)) (now («packet_counters» .entry)) (now («pages_counters» .entry))
+        (now (orbits .entry)) (now («stop_bits» .entry)))
         (headerOf header) ⌝ }
 {
     plain_link_check(check_link(

@@ -123,11 +123,14 @@ pub fn check_link(
     ensures yields { λ r. ⌜ r
         ≡ yieldsOn
         (linksOf
-        (arrays (now (seen .entry)) (now («packet_counters» .entry)) (now («pages_counters» .entry)) (now (orbits .entry)) (now («stop_bits» .entry))))
+        (arrays (now (seen .entry)) (now («packet_counters» .entry)) (now («pages_counters» .entry))
+        (now (orbits .entry)) (now («stop_bits» .entry))))
         rdh ⌝ }
-    ensures keeps { λ _. ⌜ arrays (now (seen .exit)) (now («packet_counters» .exit)) (now («pages_counters» .exit)) (now (orbits .exit)) (now («stop_bits» .exit))
+    ensures keeps { λ _. ⌜ arrays (now (seen .exit)) (now («packet_counters» .exit)) (now («pages_counters» .exit))
+        (now (orbits .exit)) (now («stop_bits» .exit))
         ≡ arraysAfter
-        (arrays (now (seen .entry)) (now («packet_counters» .entry)) (now («pages_counters» .entry)) (now (orbits .entry)) (now («stop_bits» .entry)))
+        (arrays (now (seen .entry)) (now («packet_counters» .entry)) (now («pages_counters» .entry))
+        (now (orbits .entry)) (now («stop_bits» .entry)))
         rdh ⌝ }
 {
     let link = rdh.link_id as usize;
