@@ -1,4 +1,5 @@
-"""What README.md shows is what is there: the sample's listing, the drawing of the crates, the crates' table, and the example in Python."""
+"""What README.md shows is what is there: the sample's listing, its links, the drawing of the crates, the crates' table, and the example in
+Python."""
 import contextlib
 import io
 import os
@@ -12,6 +13,7 @@ from .differential import ROOT
 README = (ROOT / "README.md").read_text()
 CRATES = (ROOT / "crates.txt").read_text()
 LISTING = re.search(r"^`(target/bin/listing < samples/staves\.raw \| sed [^`]*)` shows .*:\n\n((?:    .*\n)+)", README, re.MULTILINE)
+LINKS = re.search(r"^`(python3 -m kesarimbu links samples/staves\.raw \| sed [^`]*)` shows .*:\n\n((?:    .*\n)+)", README, re.MULTILINE)
 EXAMPLE = re.search(r"(?:^    .*\n|^\n)*^    import kesarimbu\n(?:^    .*\n|^\n)+", README, re.MULTILINE)
 
 
@@ -20,10 +22,17 @@ def unindented(block):
 
 
 class Readme(unittest.TestCase):
+    def assert_shows(self, block):
+        command, shown = block.groups()
+        modules = {**os.environ, "PYTHONPATH": str(ROOT / "python")}
+        said = subprocess.run(command, shell=True, cwd=ROOT, env=modules, stdout=subprocess.PIPE, check=True).stdout.decode()
+        self.assertEqual(unindented(shown), said)
+
     def test_the_listing(self):
-        command, shown = LISTING.groups()
-        listed = subprocess.run(command, shell=True, cwd=ROOT, stdout=subprocess.PIPE, check=True).stdout.decode()
-        self.assertEqual(unindented(shown), listed)
+        self.assert_shows(LISTING)
+
+    def test_the_links(self):
+        self.assert_shows(LINKS)
 
     def test_the_drawing(self):
         drawn = subprocess.run([sys.executable, ROOT / "docs/draw_crates.py"], stdout=subprocess.PIPE, check=True).stdout.decode()
