@@ -434,6 +434,222 @@ static void trigger_counts_of_each_call(void)
     CHECK(listed.answer.refusal == KESARIMBU_END && memcmp(by_list.triggers, expected, sizeof expected) == 0);
 }
 
+/* What is lent for the check of links. */
+struct links {
+    uint8_t seen[KESARIMBU_LINKS];
+    uint8_t packet_counters[KESARIMBU_LINKS];
+    uint16_t pages_counters[KESARIMBU_LINKS];
+    uint32_t orbits[KESARIMBU_LINKS];
+    uint8_t stop_bits[KESARIMBU_LINKS];
+};
+
+static bool same_links(const struct links *one, const struct links *other)
+{
+    return memcmp(one->seen, other->seen, sizeof one->seen) == 0 &&
+           memcmp(one->packet_counters, other->packet_counters, sizeof one->packet_counters) == 0 &&
+           memcmp(one->pages_counters, other->pages_counters, sizeof one->pages_counters) == 0 &&
+           memcmp(one->orbits, other->orbits, sizeof one->orbits) == 0 &&
+           memcmp(one->stop_bits, other->stop_bits, sizeof one->stop_bits) == 0;
+}
+
+/* The four values of a header that its link keeps. */
+struct last {
+    uint8_t packet_counter;
+    uint16_t pages_counter;
+    uint32_t orbit;
+    uint8_t stop_bit;
+};
+
+static struct last with(uint8_t packet_counter, uint16_t pages_counter, uint32_t orbit, uint8_t stop_bit)
+{
+    struct last values = {packet_counter, pages_counter, orbit, stop_bit};
+    return values;
+}
+
+static void keep(struct links *links, uint8_t link, uint8_t seen, struct last values)
+{
+    links->seen[link] = seen;
+    links->packet_counters[link] = values.packet_counter;
+    links->pages_counters[link] = values.pages_counter;
+    links->orbits[link] = values.orbit;
+    links->stop_bits[link] = values.stop_bit;
+}
+
+/* Puts a header on a link, with these values, and those of another header for all else. */
+static struct kesarimbu_link_check put_as(struct kesarimbu_header h, struct links *links, uint8_t link, struct last values)
+{
+    h.link_id = link;
+    h.packet_counter = values.packet_counter;
+    h.pages_counter = values.pages_counter;
+    h.orbit = values.orbit;
+    h.stop_bit = values.stop_bit;
+    return kesarimbu_check_link(h, links->seen, links->packet_counters, links->pages_counters, links->orbits, links->stop_bits);
+}
+
+static struct kesarimbu_link_check put(struct links *links, uint8_t link, struct last values)
+{
+    return put_as(sound(64, 64), links, link, values);
+}
+
+/* What a header yields behind another one, which was the first of its link. */
+static struct kesarimbu_link_check behind(struct last first, struct last next)
+{
+    struct links links = {{0}, {0}, {0}, {0}, {0}};
+    put(&links, 3, first);
+    return put(&links, 3, next);
+}
+
+enum { NO_FLAG = 0, PACKETS = 1, PAGES = 2, ORBIT = 4 };
+
+static bool yields(struct kesarimbu_link_check c, int flags, uint8_t distance)
+{
+    return (c.packet_counter ? PACKETS : 0) + (c.pages_counter ? PAGES : 0) + (c.orbit ? ORBIT : 0) == flags && c.distance == distance;
+}
+
+/* A link from its first header on: two frames, the first of three pages, the second of one. All zeros are a beginning. */
+static void a_link_in_order(void)
+{
+    struct links links = {{0}, {0}, {0}, {0}, {0}}, expected = links;
+    CHECK(yields(put(&links, 3, with(200, 7, 0xBC5E1, 0)), NO_FLAG, 0)); /* taken as it comes */
+    keep(&expected, 3, 1, with(200, 7, 0xBC5E1, 0));
+    CHECK(same_links(&links, &expected));
+    CHECK(yields(put(&links, 3, with(201, 8, 0xBC5E1, 0)), NO_FLAG, 0));
+    CHECK(yields(put(&links, 3, with(202, 9, 0xBC5E1, 1)), NO_FLAG, 0));
+    CHECK(yields(put(&links, 3, with(203, 0, 0xBC5E2, 1)), NO_FLAG, 0));
+    CHECK(yields(put(&links, 3, with(204, 0, 0xBC5E3, 2)), NO_FLAG, 0));
+    keep(&expected, 3, 1, with(204, 0, 0xBC5E3, 2));
+    CHECK(same_links(&links, &expected)); /* the stop bit as it was */
+}
+
+static void first_headers(void)
+{
+    struct links links = {{0}, {0}, {0}, {0}, {0}};
+    CHECK(yields(put(&links, 0, with(0, 0, 0, 0)), NO_FLAG, 0));
+    CHECK(yields(put(&links, 1, with(255, 65535, 0xFFFFFFFF, 255)), NO_FLAG, 0));
+    CHECK(yields(put(&links, 255, with(1, 1, 1, 1)), NO_FLAG, 0));
+    CHECK(links.seen[0] == 1 && links.seen[1] == 1 && links.seen[255] == 1 && links.seen[2] == 0 && links.seen[254] == 0);
+}
+
+static void packet_counters(void)
+{
+    CHECK(yields(behind(with(4, 0, 9, 0), with(5, 1, 9, 0)), NO_FLAG, 0));
+    CHECK(yields(behind(with(4, 0, 9, 0), with(6, 1, 9, 0)), PACKETS, 1));   /* one is lost */
+    CHECK(yields(behind(with(4, 0, 9, 0), with(4, 1, 9, 0)), PACKETS, 255)); /* it came twice */
+    CHECK(yields(behind(with(4, 0, 9, 0), with(3, 1, 9, 0)), PACKETS, 254));
+    CHECK(yields(behind(with(4, 0, 9, 0), with(0, 1, 9, 0)), PACKETS, 251));
+    CHECK(yields(behind(with(254, 0, 9, 0), with(255, 1, 9, 0)), NO_FLAG, 0));
+    CHECK(yields(behind(with(254, 0, 9, 0), with(0, 1, 9, 0)), PACKETS, 1));
+    CHECK(yields(behind(with(255, 0, 9, 0), with(0, 1, 9, 0)), NO_FLAG, 0));
+    CHECK(yields(behind(with(255, 0, 9, 0), with(255, 1, 9, 0)), PACKETS, 255));
+    CHECK(yields(behind(with(255, 0, 9, 0), with(1, 1, 9, 0)), PACKETS, 1));
+    CHECK(yields(behind(with(255, 0, 9, 1), with(0, 0, 9, 0)), NO_FLAG, 0)); /* a stop does not begin it anew .. */
+    CHECK(yields(behind(with(7, 0, 9, 1), with(0, 0, 9, 0)), PACKETS, 248)); /* .. nor does it let it be free */
+    CHECK(yields(behind(with(7, 0, 9, 1), with(8, 0, 9, 0)), NO_FLAG, 0));
+}
+
+static void pages_counters(void)
+{
+    CHECK(yields(behind(with(4, 41, 9, 0), with(5, 42, 9, 0)), NO_FLAG, 0));
+    CHECK(yields(behind(with(4, 41, 9, 0), with(5, 41, 9, 0)), PAGES, 0));
+    CHECK(yields(behind(with(4, 41, 9, 0), with(5, 43, 9, 0)), PAGES, 0));
+    CHECK(yields(behind(with(4, 41, 9, 0), with(5, 0, 9, 0)), PAGES, 0));
+    CHECK(yields(behind(with(4, 255, 9, 0), with(5, 256, 9, 0)), NO_FLAG, 0));
+    CHECK(yields(behind(with(4, 255, 9, 0), with(5, 0, 9, 0)), PAGES, 0));
+    CHECK(yields(behind(with(4, 65534, 9, 0), with(5, 65535, 9, 0)), NO_FLAG, 0));
+    CHECK(yields(behind(with(4, 65534, 9, 0), with(5, 0, 9, 0)), PAGES, 0));
+    CHECK(yields(behind(with(4, 65535, 9, 0), with(5, 0, 9, 0)), NO_FLAG, 0));
+    CHECK(yields(behind(with(4, 65535, 9, 0), with(5, 65535, 9, 0)), PAGES, 0));
+    CHECK(yields(behind(with(4, 65535, 9, 0), with(5, 1, 9, 0)), PAGES, 0));
+    CHECK(yields(behind(with(4, 41, 9, 0), with(6, 43, 9, 0)), PACKETS | PAGES, 1));
+}
+
+static void orbits(void)
+{
+    CHECK(yields(behind(with(4, 0, 0, 0), with(5, 1, 1, 0)), ORBIT, 0));
+    CHECK(yields(behind(with(4, 0, 9, 0), with(5, 1, 8, 1)), ORBIT, 0)); /* its own stop does not free it */
+    CHECK(yields(behind(with(4, 0, 0, 0), with(5, 1, 0x80000000, 0)), ORBIT, 0));
+    CHECK(yields(behind(with(4, 0, 0xFFFFFFFF, 0), with(5, 1, 0, 0)), ORBIT, 0));
+    CHECK(yields(behind(with(4, 0, 0xFFFFFFFF, 0), with(5, 1, 0xFFFFFFFF, 0)), NO_FLAG, 0));
+    CHECK(yields(behind(with(4, 0, 9, 0), with(7, 0, 10, 0)), PACKETS | PAGES | ORBIT, 2));
+}
+
+/* Any stop bit but 0 is a stop: behind it the pages begin at 0, and the orbit is free. */
+static void stops(void)
+{
+    static const uint8_t stop_bits[] = {1, 2, 128, 255};
+    for (size_t i = 0; i < sizeof stop_bits; i++) {
+        uint8_t stop = stop_bits[i];
+        CHECK(yields(behind(with(4, 1, 9, stop), with(5, 0, 9, 0)), NO_FLAG, 0));
+        CHECK(yields(behind(with(4, 1, 9, stop), with(5, 0, 10, stop)), NO_FLAG, 0));
+        CHECK(yields(behind(with(4, 1, 9, stop), with(5, 0, 0, 0)), NO_FLAG, 0));
+        CHECK(yields(behind(with(4, 1, 9, stop), with(5, 2, 10, 0)), PAGES, 0));
+        CHECK(yields(behind(with(4, 65535, 9, stop), with(5, 0, 9, 0)), NO_FLAG, 0));
+        CHECK(yields(behind(with(4, 65535, 9, stop), with(5, 65535, 9, 0)), PAGES, 0));
+        CHECK(yields(behind(with(4, 1, 9, stop), with(7, 1, 9, 0)), PACKETS | PAGES, 2));
+    }
+    CHECK(yields(behind(with(4, 1, 9, 0), with(5, 0, 10, 0)), PAGES | ORBIT, 0));
+    CHECK(yields(behind(with(4, 1, 9, 0), with(5, 2, 10, 1)), ORBIT, 0));
+}
+
+/* Two links in turns, with the same packet counters: each goes on from its own last header. */
+static void links_in_turns(void)
+{
+    struct links links = {{0}, {0}, {0}, {0}, {0}};
+    CHECK(yields(put(&links, 0, with(254, 0, 9, 0)), NO_FLAG, 0) && yields(put(&links, 255, with(10, 5, 70, 0)), NO_FLAG, 0));
+    CHECK(yields(put(&links, 0, with(255, 1, 9, 1)), NO_FLAG, 0) && yields(put(&links, 255, with(11, 6, 70, 0)), NO_FLAG, 0));
+    CHECK(yields(put(&links, 0, with(0, 0, 10, 0)), NO_FLAG, 0) && yields(put(&links, 255, with(14, 7, 71, 0)), PACKETS | ORBIT, 2));
+    CHECK(yields(put(&links, 0, with(1, 1, 10, 0)), NO_FLAG, 0) && yields(put(&links, 255, with(15, 8, 71, 0)), NO_FLAG, 0));
+}
+
+/* Entries that are all different: of `seen` a third each are 0, 1 and 2. */
+static struct links filled(void)
+{
+    struct links links;
+    for (uint32_t i = 0; i < KESARIMBU_LINKS; i++)
+        keep(&links, (uint8_t)i, (uint8_t)(i % 3), with((uint8_t)(i + 7), (uint16_t)(257 * i + 3), 0x01010101 * i + 5, (uint8_t)(255 - i)));
+    return links;
+}
+
+/* A header on any link writes the five entries of that link, and no other. */
+static void no_other_link_changes(void)
+{
+    bool all = true;
+    for (uint32_t i = 0; i < KESARIMBU_LINKS; i++) {
+        struct links links = filled(), expected = links;
+        put(&links, (uint8_t)i, with(1, 2, 3, 4));
+        keep(&expected, (uint8_t)i, 1, with(1, 2, 3, 4));
+        all = all && same_links(&links, &expected);
+    }
+    CHECK(all);
+}
+
+/* Of a link with 0 for seen nothing is kept, whatever else stands there; any other number means that it is. */
+static void what_seen_says(void)
+{
+    static const uint8_t seen[] = {0, 1, 2, 128, 255};
+    for (size_t i = 0; i < sizeof seen; i++) {
+        struct links links = filled(), expected = links;
+        keep(&links, 255, seen[i], with(4, 1, 9, 0));
+        struct kesarimbu_link_check c = put(&links, 255, with(9, 7, 8, 0));
+        CHECK(seen[i] == 0 ? yields(c, NO_FLAG, 0) : yields(c, PACKETS | PAGES | ORBIT, 4));
+        keep(&expected, 255, 1, with(9, 7, 8, 0));
+        CHECK(same_links(&links, &expected));
+    }
+}
+
+/* Nothing matters of a header but its link and the four values. */
+static void other_fields(void)
+{
+    struct links links = {{0}, {0}, {0}, {0}, {0}}, expected = links;
+    uint8_t bytes[KESARIMBU_HEADER_SIZE];
+    memset(bytes, 0xFF, sizeof bytes);
+    put(&links, 3, with(4, 0, 9, 0));
+    CHECK(yields(put_as(kesarimbu_decode(bytes, sizeof bytes).header, &links, 3, with(5, 1, 9, 0)), NO_FLAG, 0));
+    CHECK(yields(put(&links, 3, with(6, 2, 9, 0)), NO_FLAG, 0));
+    keep(&expected, 3, 1, with(6, 2, 9, 0));
+    CHECK(same_links(&links, &expected));
+}
+
 #define SIZE(s) printf("struct %s size %zu\n", #s, sizeof(struct s))
 #define FIELD(s, f) printf("%s.%s offset %zu size %zu\n", #s, #f, offsetof(struct s, f), sizeof(((struct s *)0)->f))
 
@@ -475,7 +691,7 @@ static void layout_of_headers(void)
     FIELD(kesarimbu_header_parts, is_pht_trigger);
 }
 
-static void layout_of_texts_and_names(void)
+static void layout_of_texts_names_and_checks(void)
 {
     SIZE(kesarimbu_text);
     FIELD(kesarimbu_text, length);
@@ -497,6 +713,11 @@ static void layout_of_texts_and_names(void)
     FIELD(kesarimbu_checked, refusal);
     FIELD(kesarimbu_checked, sound);
     FIELD(kesarimbu_checked, validator);
+    SIZE(kesarimbu_link_check);
+    FIELD(kesarimbu_link_check, packet_counter);
+    FIELD(kesarimbu_link_check, pages_counter);
+    FIELD(kesarimbu_link_check, orbit);
+    FIELD(kesarimbu_link_check, distance);
 }
 
 static void layout_of_a_scan(void)
@@ -562,7 +783,7 @@ int main(int argc, char **argv)
 {
     if (argc == 2 && strcmp(argv[1], "layout") == 0) {
         layout_of_headers();
-        layout_of_texts_and_names();
+        layout_of_texts_names_and_checks();
         layout_of_a_scan();
         layout_of_replies();
         return 0;
@@ -584,6 +805,16 @@ int main(int argc, char **argv)
     headers_not_counted();
     passed_headers_before_a_want();
     trigger_counts_of_each_call();
+    a_link_in_order();
+    first_headers();
+    packet_counters();
+    pages_counters();
+    orbits();
+    stops();
+    links_in_turns();
+    no_other_link_changes();
+    what_seen_says();
+    other_fields();
     printf("%d passed, %d failed\n", passed, failed);
     return failed != 0;
 }

@@ -13,7 +13,8 @@
    - A bool is 0 or 1, as C's own conversions make it.
 
    Structs go in and come back by value. What is large is lent, and belongs to the caller before and after the call. All zeros are a
-   beginning: of settings (no filter, payload read, no statistics), a state, a validator, and the lists and trigger counts that are lent.
+   beginning: of settings (no filter, payload read, no statistics), a state, a validator, and what is lent for lists, trigger counts and the
+   check of links.
 
    An example: count the packets of a file, window by window.
 
@@ -62,7 +63,7 @@ extern "C" {
 
 enum {
     KESARIMBU_HEADER_SIZE = 64, /* bytes of a header */
-    KESARIMBU_LINKS = 256,      /* bytes of the list of links */
+    KESARIMBU_LINKS = 256,      /* links: bytes of their list, and entries of each array that kesarimbu_check_link is lent */
     KESARIMBU_TRIGGERS = 20,    /* trigger counts, of 32 bits each */
     KESARIMBU_LEAST_ROOM = 1024 /* bytes of the shortest buffer that kesarimbu_list takes */
 };
@@ -169,6 +170,19 @@ struct kesarimbu_checked {
     uint32_t refusal;
     bool sound;
     struct kesarimbu_validator validator;
+};
+
+/* What a header yields behind the last one that was put on its link: a flag for each field that is not as it must be there, and how far the
+   packet counter is from the expected one. Any stop bit but 0 is a stop. The first header on a link is taken as it comes: no flag, and
+   distance 0.
+
+   Where packets were lost in an orderly run, `distance` is how many of them, modulo 256: the packet counter does not tell of 256 that were
+   lost in a row. A distance of 255 may be a packet that came twice. */
+struct kesarimbu_link_check {
+    bool packet_counter; /* it is not the last one plus 1, with 255 followed by 0 */
+    bool pages_counter;  /* it is not the last one plus 1, with 65,535 followed by 0; or, behind a stop, it is not 0 */
+    bool orbit;          /* it is not the last one; behind a stop any orbit is right */
+    uint8_t distance;    /* the packet counter minus the expected one, modulo 256 */
 };
 
 /* The trigger counts, which are lent, are KESARIMBU_TRIGGERS numbers: how many of the headers seen had each bit of a trigger in their
@@ -294,6 +308,16 @@ struct kesarimbu_text kesarimbu_trigger_list(const uint32_t *triggers, uint8_t *
 
 /* A line for each count that differs from that of `expected`, in the order of the places: 1,058 bytes are always enough. */
 struct kesarimbu_text kesarimbu_trigger_compare(const uint32_t *triggers, const uint32_t *expected, uint8_t *out, size_t length);
+
+/* Whether a header goes on from the last one that was put on its link; it then is the last one itself. What is kept of the links are five
+   arrays of KESARIMBU_LINKS entries, apart from a scan's state. `seen` is 0 where nothing is kept of a link yet, whatever the other four
+   have there, and anything else where they have the values of its last header, the stop bit as it was. A call writes 1 there, and changes
+   no entry of another link. Whatever the arrays and the header have is answered: there is no refusal.
+
+   Put the headers that a scan hands out, all of them and in their order. Where several senders share a link, a filter by FEE id or stave
+   leaves gaps, which are told as lost packets: scan without a filter, or by link. */
+struct kesarimbu_link_check kesarimbu_check_link(struct kesarimbu_header header, uint8_t *seen, uint8_t *packet_counters,
+                                                 uint16_t *pages_counters, uint32_t *orbits, uint8_t *stop_bits);
 
 /* Examines the header at the state's byte place. `window` holds `length` bytes of the recording from byte place `first` on, and the
    recording ends with it if it is the `last`. `links` are KESARIMBU_LINKS bytes and `fee_ids` are `places` numbers: lists in the order of
