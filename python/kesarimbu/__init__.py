@@ -15,6 +15,7 @@ include/kesarimbu.h, whose answers are proved for all values of their arguments:
     decode, encode, equal, row      headers, from and to their 64 bytes, and as a row of text
     fee, fee_id, same_stave, name   FEE ids and the names of staves
     Validator.check                 whether a header is sound, and what is wrong with it
+    LinkContinuity.check            whether a header goes on from the last one on its link, or packets were lost between
     Settings                        what a scan is asked for, with a filter by the name of a stave
     examine, load                   one header, one packet, in a window of a recording
     trigger_list, trigger_compare   the trigger counts that a scan keeps, as a list and against those expected
@@ -31,6 +32,7 @@ from . import library as _library  # at once, so that a library that is missing 
 # Where each name is. They are imported when they are first used: the command line needs few of them, and starts faster.
 _HOMES = {
     "headers": "Header decode encode equal row",
+    "links": "LastHeader LinkCheck LinkContinuity",
     "listing": "Listing",
     "reading": "End Packets packets",
     "refusals": "Refused",
@@ -46,6 +48,7 @@ __all__ = sorted(_HOME_OF)
 TYPE_CHECKING = False
 if TYPE_CHECKING:
     from .headers import Header, decode, encode, equal, row
+    from .links import LastHeader, LinkCheck, LinkContinuity
     from .listing import Listing
     from .reading import End, Packets, packets
     from .refusals import Refused

@@ -13,6 +13,8 @@ VARIABLE = "KESARIMBU_LIBRARY"
 
 # What is lent crosses as a pointer and a length, in elements.
 _LENT = (c_void_p, c_size_t)
+# The five arrays that the check of links keeps.
+_LINKS = (c_void_p,) * 5
 # Links, trigger counts and FEE ids of a scan, and its window with the window's first place and whether it is the last.
 _LISTS = (c_void_p, c_void_p, c_void_p, c_size_t)
 _WINDOW = (c_void_p, c_size_t, c_uint64, c_bool)
@@ -33,6 +35,7 @@ SIGNATURES = {
     "kesarimbu_check": (structs.Checked, structs.Validator, structs.Header, *_LENT),
     "kesarimbu_trigger_list": (structs.Text, c_void_p, *_LENT),
     "kesarimbu_trigger_compare": (structs.Text, c_void_p, c_void_p, *_LENT),
+    "kesarimbu_check_link": (structs.LinkCheck, structs.Header, *_LINKS),
     "kesarimbu_examine": (structs.Reply, *_SCAN),
     "kesarimbu_load": (structs.Reply, *_SCAN),
     "kesarimbu_list": (structs.Listed, structs.Settings, structs.State, structs.Validator, *_LISTS, *_WINDOW, *_LENT),
@@ -79,6 +82,7 @@ set_stave = _declared(_library, "kesarimbu_set_stave")
 check = _declared(_library, "kesarimbu_check")
 trigger_list = _declared(_library, "kesarimbu_trigger_list")
 trigger_compare = _declared(_library, "kesarimbu_trigger_compare")
+check_link = _declared(_library, "kesarimbu_check_link")
 examine = _declared(_library, "kesarimbu_examine")
 load = _declared(_library, "kesarimbu_load")
 list_packets = _declared(_library, "kesarimbu_list")

@@ -83,6 +83,10 @@ class Checked(Structure):
     _fields_ = [("length", c_size_t), ("refusal", c_uint32), ("sound", c_bool), ("validator", Validator)]
 
 
+class LinkCheck(Structure):
+    _fields_ = [("packet_counter", c_bool), ("pages_counter", c_bool), ("orbit", c_bool), ("distance", c_uint8)]
+
+
 class Settings(Structure):
     _fields_ = [
         ("by_link", c_bool),
@@ -166,7 +170,7 @@ def _layout(kind: type[Structure]) -> struct.Struct:
 # The layouts of the structs that hold numbers alone.
 LAYOUTS = {
     kind: _layout(kind)
-    for kind in (Header, HeaderParts, FeeParts, Validator, Settings, State, Answer, Marks)
+    for kind in (Header, HeaderParts, FeeParts, Validator, LinkCheck, Settings, State, Answer, Marks)
 }
 
 
