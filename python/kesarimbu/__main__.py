@@ -67,10 +67,11 @@ def write_listing(listing: Listing, progress: Progress, options: Options) -> int
     out = sys.stdout.buffer
     for lines in views(listing, options):
         out.write(lines)
+        out.flush()  # no line waits here for a slow source
         progress.show(listing.place)
     if options.triggers:
         out.write(trigger_lines(listing))
-    out.flush()
+        out.flush()
     progress.clear()
     return SOUND if listing.refusal == Refused(END) and listing.unsound == 0 else NOT_SOUND
 

@@ -4,6 +4,7 @@ import io
 import itertools
 import os
 import pty
+import select
 import subprocess
 import sys
 import unittest
@@ -72,13 +73,31 @@ def run_here(*words):
     return status, out.buffer.getvalue(), errors.getvalue()
 
 
+def command(*words):
+    """The command line as a program of its own, with its environment: one in which Python writes as it does by default."""
+    environment = {**os.environ, "PYTHONPATH": str(ROOT / "python"), "COLUMNS": "200"}
+    environment.pop("PYTHONUNBUFFERED", None)
+    return [sys.executable, "-m", "kesarimbu", *map(str, words)], environment
+
+
 def run(*words, library=None, **how):
     """Runs the command line as a program of its own."""
-    environment = {**os.environ, "PYTHONPATH": str(ROOT / "python"), "COLUMNS": "200"}
+    program, environment = command(*words)
     if library is not None:
         environment["KESARIMBU_LIBRARY"] = library
-    command = [sys.executable, "-m", "kesarimbu", *map(str, words)]
-    return subprocess.run(command, env=environment, stdout=how.pop("stdout", subprocess.PIPE), stderr=subprocess.PIPE, timeout=60, **how)
+    return subprocess.run(program, env=environment, stdout=how.pop("stdout", subprocess.PIPE), stderr=subprocess.PIPE, timeout=60, **how)
+
+
+def run_slowly(*words, recording):
+    """What the program prints of a recording while its input is still open, what it prints behind that, and its exit status."""
+    program, environment = command(*words, "-")
+    with subprocess.Popen(program, env=environment, stdin=subprocess.PIPE, stdout=subprocess.PIPE) as running:
+        running.stdin.write(recording)
+        running.stdin.flush()
+        is_there = select.select([running.stdout], [], [], 20)[0]
+        early = os.read(running.stdout.fileno(), 1 << 16) if is_there else b""
+        rest, _ = running.communicate()
+    return early, rest, running.returncode
 
 
 class Lists(unittest.TestCase):
@@ -96,6 +115,11 @@ class Lists(unittest.TestCase):
         with file_with(TWO) as path, open(path, "rb") as file:
             for done in (run("list", path), run("list", "-", stdin=file), run("list", "-", input=TWO)):
                 self.assertEqual((done.returncode, done.stdout, done.stderr), (0, TWO_LISTED, b""))
+
+    def test_lines_do_not_wait_for_more_bytes(self):
+        early, rest, status = run_slowly("list", recording=TWO)
+        self.assertEqual((early + rest, status), (TWO_LISTED, 0))
+        self.assertEqual(early.count(b"\n"), 2)
 
     def test_nothing(self):
         for length in (0, 1, 63):
