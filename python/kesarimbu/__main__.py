@@ -1,4 +1,4 @@
-"""The command line: `python3 -m kesarimbu list FILE`."""
+"""The command line: `python3 -m kesarimbu list FILE`, and `links FILE`."""
 from __future__ import annotations
 
 import os
@@ -6,18 +6,22 @@ import sys
 
 from .listing import Listing
 from .progress import Progress, size_to_tell
-from .refusals import END, Refused
+from .refusals import Refused
 
 TYPE_CHECKING = False
 if TYPE_CHECKING:
     from argparse import Namespace
     from typing import Iterator, NoReturn, Union
 
+    from .link_report import LinkReport
+    from .windows import Source
+
     Options = Union["FileAlone", Namespace]
+    Report = Union[Listing, LinkReport]
 
 # Exit statuses.
-SOUND = 0
-NOT_SOUND = 1
+WELL = 0
+NOT_WELL = 1
 MISUSE = 2
 INTERRUPTED = 130
 
@@ -27,6 +31,7 @@ STANDARD_INPUT = 0
 class FileAlone:
     """The options of `list FILE`, with no word more."""
 
+    command = "list"
     link = fee = stave = version = None
     its = no_payload = triggers = False
 
@@ -42,52 +47,60 @@ def options_of(words: list[str]) -> Options:
     return understood(words)
 
 
-def fail(message: str) -> NoReturn:
+def fail(options: Options, message: str) -> NoReturn:
     """Ends the program, with what could not be done."""
     from .options import misused
-    misused(message)
+    misused(options.command, message)
 
 
-def run_list(options: Options) -> int:
-    """Lists a recording on standard output."""
+def run(options: Options) -> int:
+    """Does what the command asks for, on standard output."""
     try:
         source = open(STANDARD_INPUT, "rb", buffering=0, closefd=False) if options.file == "-" else options.file
         progress = Progress(size_to_tell(source))
-        listing = Listing(source, link=options.link, fee=options.fee, stave=options.stave, skip_payload=options.no_payload,
-                          version=options.version, its=options.its)
+        report = report_on(source, options)
     except OSError as error:
-        fail(f"cannot read {options.file}: {error.strerror}")
+        fail(options, f"cannot read {options.file}: {error.strerror}")
     except Refused as refused:
-        fail(f"argument --stave: {options.stave!r}: {refused}")
-    with listing:
-        return write_listing(listing, progress, options)
+        fail(options, f"argument --stave: {options.stave!r}: {refused}")
+    with report:
+        return write(report, progress, options)
 
 
-def write_listing(listing: Listing, progress: Progress, options: Options) -> int:
+def report_on(source: Source, options: Options) -> Report:
+    """What a command writes of a source. What checks links is imported only where it is asked for."""
+    asked = dict(link=options.link, fee=options.fee, stave=options.stave, skip_payload=options.no_payload)
+    if options.command == "links":
+        from .link_report import LinkReport
+        return LinkReport(source, **asked)
+    return Listing(source, **asked, version=options.version, its=options.its)
+
+
+def write(report: Report, progress: Progress, options: Options) -> int:
+    """Writes a report, and answers the exit status."""
     out = sys.stdout.buffer
-    for lines in views(listing, options):
+    for lines in chunks(report, options):
         out.write(lines)
         out.flush()  # no line waits here for a slow source
-        progress.show(listing.place)
-    if options.triggers:
-        out.write(trigger_lines(listing))
-        out.flush()
+        progress.show(report.place)
     progress.clear()
-    return SOUND if listing.refusal == Refused(END) and listing.unsound == 0 else NOT_SOUND
+    return WELL if report.is_well else NOT_WELL
+
+
+def chunks(report: Report, options: Options) -> Iterator[bytes | memoryview]:
+    """The lines of a report. A read that fails ends the program; a write that fails is not met in here."""
+    try:
+        yield from report.views()
+    except OSError as error:
+        fail(options, f"cannot read {options.file}: {error.strerror}")
+    if options.command == "list" and options.triggers:
+        yield trigger_lines(report)
 
 
 def trigger_lines(listing: Listing) -> bytes:
     """The list of a listing's trigger counts. What makes it is imported only where it is asked for."""
     from .triggers import trigger_list
     return trigger_list(listing.triggers).encode()
-
-
-def views(listing: Listing, options: Options) -> Iterator[memoryview]:
-    """The lines of a listing. A read that fails ends the program; a write that fails is not met in here."""
-    try:
-        yield from listing.views()
-    except OSError as error:
-        fail(f"cannot read {options.file}: {error.strerror}")
 
 
 def leave_output() -> None:
@@ -98,10 +111,10 @@ def leave_output() -> None:
 def main(words: list[str] | None = None) -> int:
     options = options_of(sys.argv[1:] if words is None else words)
     try:
-        return run_list(options)
+        return run(options)
     except BrokenPipeError:  # whoever reads the output has seen enough
         leave_output()
-        return NOT_SOUND
+        return NOT_WELL
     except OSError as error:
         leave_output()
         from .options import PROGRAM

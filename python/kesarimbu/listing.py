@@ -8,7 +8,7 @@ import os
 from ctypes import c_uint8, c_uint16, c_uint32
 
 from . import lending, library, plain, structs
-from .refusals import BUFFER_TOO_SHORT, Refused, refused_of
+from .refusals import BUFFER_TOO_SHORT, END, Refused, refused_of
 from .windows import OneBuffer
 
 TYPE_CHECKING = False
@@ -44,8 +44,8 @@ class Listing:
     filtered 0
     payload 0
     end 1
-    >>> listing.refusal, listing.unsound, listing.place, listing.triggers.pht
-    (Refused(1), 0, 64, 1)
+    >>> listing.refusal, listing.unsound, listing.is_well, listing.place, listing.triggers.pht
+    (Refused(1), 0, True, 64, 1)
     """
 
     def __init__(self, source: Source, *, link: int | None = None, fee: int | None = None, stave: str | bytes | int | None = None,
@@ -76,6 +76,11 @@ class Listing:
     def place(self) -> int:
         """The byte place that the listing has come to."""
         return self._listed.state.place
+
+    @property
+    def is_well(self) -> bool:
+        """Whether the recording was listed to its end, and all packets listed are sound."""
+        return self.refusal == Refused(END) and self.unsound == 0
 
     @property
     def triggers(self) -> TriggerCounts:

@@ -75,11 +75,16 @@ class Packets:
     def _go_on(self, answer: Want | Refused) -> None:
         """After a want, with the window that is wanted; a refusal is the end."""
         if isinstance(answer, Want):
-            self._windows.move(answer.place, answer.size)
-            self._scan.lend(self._windows.window, self._windows.first, self._windows.last)
+            lend_wanted(self._windows, self._scan, answer)
         else:
             self.end = end_of(answer, self._scan.kept, self._marks)
             self.close()
+
+
+def lend_wanted(windows: Windows, scan: Scan, want: Want) -> None:
+    """Lends a scan the window that it wants."""
+    windows.move(want.place, want.size)
+    scan.lend(windows.window, windows.first, windows.last)
 
 
 def together(marks: Marks, more: Marks) -> Marks:

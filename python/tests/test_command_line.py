@@ -5,6 +5,7 @@ import itertools
 import os
 import pty
 import select
+import signal
 import subprocess
 import sys
 import unittest
@@ -88,16 +89,20 @@ def run(*words, library=None, **how):
     return subprocess.run(program, env=environment, stdout=how.pop("stdout", subprocess.PIPE), stderr=subprocess.PIPE, timeout=60, **how)
 
 
-def run_slowly(*words, recording):
-    """What the program prints of a recording while its input is still open, what it prints behind that, and its exit status."""
+def run_slowly(*words, recording, interrupt=False):
+    """What the program prints of a recording while its input is still open, what it prints when that ends, its exit status and errors. It
+    may be interrupted before its input ends."""
     program, environment = command(*words, "-")
-    with subprocess.Popen(program, env=environment, stdin=subprocess.PIPE, stdout=subprocess.PIPE) as running:
+    pipes = dict.fromkeys(("stdin", "stdout", "stderr"), subprocess.PIPE)
+    with subprocess.Popen(program, env=environment, **pipes, preexec_fn=lambda: signal.signal(signal.SIGINT, signal.SIG_DFL)) as running:
         running.stdin.write(recording)
         running.stdin.flush()
         is_there = select.select([running.stdout], [], [], 20)[0]
         early = os.read(running.stdout.fileno(), 1 << 16) if is_there else b""
-        rest, _ = running.communicate()
-    return early, rest, running.returncode
+        if interrupt:
+            running.send_signal(signal.SIGINT)
+        rest, errors = running.communicate()
+    return early, rest, running.returncode, errors
 
 
 class Lists(unittest.TestCase):
@@ -117,9 +122,13 @@ class Lists(unittest.TestCase):
                 self.assertEqual((done.returncode, done.stdout, done.stderr), (0, TWO_LISTED, b""))
 
     def test_lines_do_not_wait_for_more_bytes(self):
-        early, rest, status = run_slowly("list", recording=TWO)
-        self.assertEqual((early + rest, status), (TWO_LISTED, 0))
+        early, rest, *ended = run_slowly("list", recording=TWO)
+        self.assertEqual((early + rest, ended), (TWO_LISTED, [0, b""]))
         self.assertEqual(early.count(b"\n"), 2)
+
+    def test_an_interrupt(self):
+        early, _, *ended = run_slowly("list", recording=TWO, interrupt=True)
+        self.assertEqual((early.count(b"\n"), ended), (2, [130, b""]))
 
     def test_nothing(self):
         for length in (0, 1, 63):
@@ -287,7 +296,7 @@ class Options(unittest.TestCase):
         for file in ("recording.raw", "-", "", "list"):
             alone, parsed = options_of(["list", file]), understood(["list", file])
             self.assertIsNot(type(alone), type(parsed))
-            for name in vars(parsed).keys() - {"command"}:
+            for name in vars(parsed):
                 self.assertEqual(getattr(alone, name), getattr(parsed, name), name)
 
     def test_other_words_are_left_to_the_parser(self):
@@ -347,8 +356,8 @@ class Surroundings(unittest.TestCase):
 class OnATerminal(unittest.TestCase):
     """Progress is told on standard error if that is a terminal and the file is large."""
 
-    def told(self, size):
-        """What is told of a file of so many bytes: one header, and nothing behind it is ever read."""
+    def told(self, size, word="list"):
+        """What a command tells of a file of so many bytes: two headers, and nothing behind them is ever read."""
         end, terminal = pty.openpty()
         program = ("import sys; from kesarimbu import progress; progress.PAUSE = 0; from kesarimbu.__main__ import main; "
                    "sys.exit(main(sys.argv[1:]))")
@@ -356,7 +365,7 @@ class OnATerminal(unittest.TestCase):
         try:
             with file_with(TWO) as path:
                 os.truncate(path, size)
-                done = subprocess.run([sys.executable, "-c", program, "list", path], env=environment, stdout=subprocess.PIPE,
+                done = subprocess.run([sys.executable, "-c", program, word, path], env=environment, stdout=subprocess.PIPE,
                                       stderr=terminal, timeout=60)
             os.set_blocking(end, False)
             return done.returncode, self.waiting_at(end)
@@ -371,13 +380,14 @@ class OnATerminal(unittest.TestCase):
             return b""
 
     def test_a_large_file(self):
-        status, said = self.told(1 << 30)
-        self.assertEqual(status, 1)
-        self.assertIn(b"0 % of 1.0 GiB", said)
-        self.assertTrue(said.endswith(b" \r"))
+        for word in ("list", "links"):
+            status, said = self.told(1 << 30, word)
+            self.assertEqual(status, 1)
+            self.assertIn(b"0 % of 1.0 GiB", said)
+            self.assertTrue(said.endswith(b" \r"))
 
     def test_a_small_file(self):
-        self.assertEqual(self.told(1000), (1, b""))
+        self.assertEqual([self.told(1000, word) for word in ("list", "links")], [(1, b"")] * 2)
 
 
 if __name__ == "__main__":
