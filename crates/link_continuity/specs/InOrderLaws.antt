@@ -54,7 +54,7 @@ module _ (l h : LastHeader) where
   orbit-lowered r false stop = refl
 
   -- A header that runs on has no flag ..
-  unflagged-on : RunsOn l h → behind l h ≡ noFlag
+  pub unflagged-on : RunsOn l h → behind l h ≡ noFlag
   unfolding behind
   unflagged-on r =
       let next : (h .«packet_counter» + (256 - nextPacketCounter l)) % 256 ≡ 0 = omega (arith, r .packet) in
@@ -66,7 +66,7 @@ module _ (l h : LastHeader) where
       }
 
   -- .. and one without a flag runs on.
-  on-unflagged : flagged (behind l h) ≡ false → RunsOn l h
+  pub on-unflagged : flagged (behind l h) ≡ false → RunsOn l h
   unfolding behind
   on-unflagged low =
       let (packet, others) = neither (behind l h .«packet_counter») _ low in
