@@ -1,1 +1,2 @@
 // Definitions and laws that every layer cites: they stand in specs/, and there is no code here.
+#![tactic(auto)]

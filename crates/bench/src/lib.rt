@@ -1,4 +1,6 @@
 // Loads over a recording, for a program in C that times them: nothing is done with a packet but to count it.
+#![tactic(auto)]
+
 ghost use Rattle.std.specs.Prelude.{true, ◌≡◌};
 ghost use Rattle.basis.specs.Pick.{pick};
 ghost use Rattle.listing_window.specs.Held.{nothing};

@@ -1,5 +1,7 @@
 // What the test programs print with. No contract can say what a program writes, so these functions promise only that they
 // are safe and end; what they wrote is held to the program's stored output.
+#![tactic(auto)]
+
 use libc::STDOUT_FILENO;
 
 // The bytes as they stand.

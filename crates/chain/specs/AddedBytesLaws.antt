@@ -54,7 +54,7 @@ module _ (longer : List ℕ) (set : Settings) (k : Kept) (h : RdhCru) (rest : Li
       let p = k.state.progress in
       let rest' = drop (place_of k) longer in
       record {
-        packet = record { header = h; payload = payload_of skip HandedOut h rest'; position = start_of p.load p.position; own_val = p.position };
+        packet = record { header = h; payload = payload_of skip HandedOut h rest'; position = start_of p.load p.position; own = p.position };
         empty = ap (λ (l : List ℕ). answer_in HandedOut h l (start_of p.load p.position) p.position) (cut_empty skip HandedOut h rest e);
         filled = refl;
         whole = λ uncut. record { size = whole_size skip h rest' read uncut; bytes = whole_bytes longer skip h k read uncut };

@@ -124,7 +124,7 @@ pub record Alike (taken : RdhCru → Bool) (e e' : Entry (List ℕ)) : Type 0 wh
 
 -- The packet of a header: but for its load's start, it is the same with any load.
 abbrev packet_at : RdhCru → List ℕ → (start own : Position) → Packet
-packet_at h payload start own = record { header = h; payload = payload; position = start; own_val = own }
+packet_at h payload start own = record { header = h; payload = payload; position = start; own = own }
 
 any_start : (h : RdhCru) (payload : List ℕ) (start start' own : Position)
     → except_start (packet_at h payload start' own) ≡ except_start (packet_at h payload start own)

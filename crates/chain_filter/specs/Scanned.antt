@@ -85,7 +85,7 @@ look_by filters start calls = scanned_by (replies (quick filters) start calls)
 
 -- A packet but for its load's start: its header, its payload and its own position.
 abbrev pub except_start : Packet → Packet
-except_start p = record { header = p.header; payload = p.payload; position = record { 0 = 0 }; own_val = p.own }
+except_start p = record { header = p.header; payload = p.payload; position = record { 0 = 0 }; own = p.own }
 
 abbrev pub except_starts : Scanned → Scanned
 except_starts s = record { packets = map except_start s.packets; end = s.end }

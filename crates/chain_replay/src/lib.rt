@@ -1,5 +1,7 @@
 // A list of calls over one recording, made one after the other. What the last of them replies is what the recording's chain says, so that
 // the contracts of the calls and the theorem on the chain are held together by a proof.
+#![tactic(auto)]
+
 ghost use Rattle.std.specs.Prelude.{◌≡◌, ◌<◌, min, length};
 ghost use Rattle.chain_replay_calls.specs.OneCall.{keeps, stand_of};
 ghost use Rattle.chain_replay.specs.Replays.{Replays, asked_at, calls_of};

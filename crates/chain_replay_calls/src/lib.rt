@@ -1,5 +1,7 @@
 // One call on a window of a recording: the part that is asked for is lent to the load or the examination, and what that replies is told, with
 // whether it ends the recording's chain.
+#![tactic(auto)]
+
 ghost use Rattle.std.specs.Prelude.{◌&&◌, List, ◌∷◌, [], ◌≡◌, ℕ, ◌+◌, leb};
 ghost use Rattle.scan_cdp.specs.Answers.{load_answer};
 ghost use Rattle.scan_cdp.specs.Steps.{unusable, with_lent};

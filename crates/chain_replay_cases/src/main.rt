@@ -1,5 +1,7 @@
 // Shows how the crate `chain_replay` is used from Rattle: a list of calls over a recording of three packets, the last of which is cut, with
 // a filter for link 1. Each line is the last reply to the first calls of the list, one more for each line.
+#![tactic(auto)]
+
 ghost use Rattle.std.specs.Prelude.{◌≤◌};
 
 use chain_replay_calls::Told;

@@ -47,7 +47,7 @@ given_at position own header_fee_id n =
       header = decoded (sample header_fee_id n 0 0x4813);
       payload = [];
       position = record { 0 = position };
-      own_val = record { 0 = own };
+      own = record { 0 = own };
     }))
 
 abbrev given : ℕ → Answer (Found (List ℕ))

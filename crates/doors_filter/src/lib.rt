@@ -1,4 +1,6 @@
 // What C and Python call to filter by the name of a stave, over structs by value that C has too.
+#![tactic(auto)]
+
 ghost use Rattle.std.specs.Prelude.{◌≡◌};
 ghost use Rattle.its_names.specs.StaveNames.{name_answer, named_fee};
 ghost use Rattle.doors_filter.specs.Replies.{plain_stave_set};

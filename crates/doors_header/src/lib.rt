@@ -1,4 +1,6 @@
 // What C and Python call about headers, over structs by value that C has too.
+#![tactic(auto)]
+
 ghost use Rattle.std.specs.Prelude.{◌≡◌};
 ghost use Rattle.rdh_row.specs.Row.{row_text};
 ghost use Rattle.serde_rdh.specs.Layout.{decode, encode, encoded_into, Equal};

@@ -1,4 +1,6 @@
 // What C and Python call about lost packets: the check of a header on its link, over five arrays that C lends for the 256 links.
+#![tactic(auto)]
+
 ghost use Rattle.std.specs.Prelude.{◌≡◌};
 ghost use Rattle.link_continuity.specs.Arrays.{arrays, arrays_after, links_of};
 ghost use Rattle.link_continuity.specs.Links.{yields_on};

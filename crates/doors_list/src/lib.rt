@@ -1,4 +1,6 @@
 // What C and Python call to list packets, many of them in one call.
+#![tactic(auto)]
+
 ghost use Rattle.std.specs.Prelude.{◌≡◌};
 ghost use Rattle.listing_batch.specs.Batches.{stop_of};
 ghost use Rattle.doors_list.specs.Doors.{left, listed_through};

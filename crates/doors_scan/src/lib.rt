@@ -1,4 +1,6 @@
 // What C and Python call: the examination of a header and the load of a packet, over structs by value that C has too.
+#![tactic(auto)]
+
 ghost use Rattle.std.specs.Prelude.{◌≡◌};
 ghost use Rattle.doors_scan.specs.Doors.{HandedBack, examined_through, left, loaded_through};
 

@@ -39,7 +39,7 @@ read_answer n header =
       header = decoded header;
       payload = record { start = n.payload_start; length = n.payload_length };
       position = record { 0 = n.position };
-      own_val = record { 0 = n.own };
+      own = record { 0 = n.own };
     })))
     (pick (eqb n.kind kind_want) (gives (wants (record { 0 = n.want_place }) n.want_size))
     (refuses n.refusal (values_in n))))
@@ -68,7 +68,7 @@ pub answer_again : (a : Examined) (bytes : List ℕ) → Writable a → 64 ≤ l
     → read_answer (plain_answer (examined_answer a)) (header_left (examined_answer a) bytes) ≡ examined_answer a
 answer_again Passed bytes fits long = refl
 answer_again (Answered (Loads.Packet packet)) bytes fits long =
-    ap (λ (h : RdhCru). gives (handed (record { header = h; payload = packet.payload; position = packet.position; own_val = packet.own })))
+    ap (λ (h : RdhCru). gives (handed (record { header = h; payload = packet.payload; position = packet.position; own = packet.own })))
     (header_again packet.rdh bytes fits long)
 answer_again (Answered (Loads.Want place size)) bytes fits long = refl
 answer_again (Answered (Loads.Refused why)) bytes fits long = refusal_again why bytes

@@ -1,4 +1,6 @@
 // The reply of a call as structs that C has too.
+#![tactic(auto)]
+
 ghost use Rattle.std.specs.Prelude.{◌≡◌};
 ghost use Rattle.scan_cdp.specs.Answers.{examined_answer, load_answer};
 ghost use Rattle.scan_cdp.specs.Loads.{no_load_marks, together};

@@ -1,4 +1,6 @@
 // The settings and the state of a scan as structs that C has too. Every value of them is one of the scan's.
+#![tactic(auto)]
+
 ghost use Rattle.std.specs.Prelude.{◌≡◌};
 ghost use Rattle.doors_scan_structs.specs.Plain.{open_load, option8, option16, plain_state, progress_of, settings_of};
 

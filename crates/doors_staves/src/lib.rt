@@ -1,4 +1,6 @@
 // What C and Python call about FEE ids and stave names, over structs by value that C has too.
+#![tactic(auto)]
+
 ghost use Rattle.std.specs.Prelude.{◌≡◌};
 ghost use Rattle.its.specs.FeeIds.{fee_id_of, same_stave};
 ghost use Rattle.its_names.specs.StaveNames.{name_answer, named_fee};

@@ -1,4 +1,6 @@
 // What C and Python call about trigger counts, which are an array that a scan keeps and C lends.
+#![tactic(auto)]
+
 ghost use Rattle.std.specs.Prelude.{◌≡◌};
 ghost use Rattle.text.specs.Written.{overwritten, written};
 ghost use Rattle.trigger_texts.specs.Mismatches.{mismatch_text};

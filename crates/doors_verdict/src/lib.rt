@@ -1,4 +1,6 @@
 // What C and Python call for a verdict, on a validator that the caller keeps.
+#![tactic(auto)]
+
 ghost use Rattle.std.specs.Prelude.{◌≡◌, length};
 ghost use Rattle.text.specs.Written.{overwritten};
 ghost use Rattle.validators.specs.Verdict.{verdict_answer, text_of};

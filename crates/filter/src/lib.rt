@@ -1,4 +1,6 @@
 // The filter of a scan: which headers are handed out, as the Rust's `FilterOpt` and `FilterTarget` say.
+#![tactic(auto)]
+
 ghost use Rattle.std.specs.Prelude.{◌≡◌};
 ghost use Rattle.filter.specs.Filter.{is_set8, is_set16, target_of, enabled, matches};
 

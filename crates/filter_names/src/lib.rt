@@ -1,4 +1,6 @@
 // The filter of a scan by the name of a stave.
+#![tactic(auto)]
+
 ghost use Rattle.std.specs.Prelude.{◌≡◌};
 ghost use Rattle.its_names.specs.StaveNames.{name_answer, named_fee};
 ghost use Rattle.filter_names.specs.StaveSetting.{stave_set};

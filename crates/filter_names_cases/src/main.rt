@@ -1,5 +1,7 @@
 // Shows how the crate `filter_names` is used from Rattle: names of staves, and some of none, put to filters of which none is set or some are;
 // and which of five FEE ids these then take on link 2.
+#![tactic(auto)]
+
 use filter::{FilterOpt, Option8, Option16};
 use its_names::StaveFeeId;
 

@@ -1,4 +1,6 @@
 // The scan of a recording through a window: one examination, and the load above it.
+#![tactic(auto)]
+
 ghost use Rattle.std.specs.Prelude.{◌≡◌, ◌+◌, ◌≤◌};
 ghost use Rattle.basis.specs.Pick.{pick};
 ghost use Rattle.scan_cdp.specs.Steps.{limit, with_lent};

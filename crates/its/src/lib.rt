@@ -1,4 +1,6 @@
 // FEE ids of the inner tracking system (ITS).
+#![tactic(auto)]
+
 ghost use Rattle.std.specs.Prelude.{◌≡◌};
 ghost use Rattle.rdh.specs.Subfields.{layer_of, stave_of, uplink_of};
 ghost use Rattle.its.specs.FeeIds.{fee_id_of, same_stave};

@@ -1,4 +1,6 @@
 // Stave names of the inner tracking system (ITS).
+#![tactic(auto)]
+
 ghost use Rattle.std.specs.Prelude.{◌≡◌, ◌<◌, length};
 ghost use Rattle.its_names.specs.StaveNames.{fee_of_stave, name_answer, named_fee};
 ghost use Rattle.its_names.specs.Parsing.{NameParsed, StartParsed, both_numbers, FirstUnderscore};

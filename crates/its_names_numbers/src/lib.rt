@@ -1,4 +1,6 @@
 // The numbers of a stave name.
+#![tactic(auto)]
+
 ghost use Rattle.std.specs.Prelude.{◌≡◌, ◌+◌, ◌-◌, ◌*◌, ◌≤◌, min};
 ghost use Rattle.its_names_numbers.specs.Numbers.{digit0, number_of};
 ghost use Rattle.its_names_numbers.specs.NumberGrammar.{Digit};

@@ -1,5 +1,7 @@
 // Whether the packets of each link run on, or some were lost between them. What is kept for the links stands apart from a scan's state: whoever
 // asks puts the headers that a scan hands out, one after the other.
+#![tactic(auto)]
+
 ghost use Rattle.std.specs.Prelude.{◌≡◌};
 ghost use Rattle.link_continuity.specs.Arrays.{arrays, arrays_after, kept_of, links_of};
 ghost use Rattle.link_continuity.specs.Link.{behind, last_of, next_packet_counter, next_pages_counter, stops, yields};

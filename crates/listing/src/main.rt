@@ -1,5 +1,7 @@
 // Lists the recording on standard input: a line for each packet, a further one if it is not sound, and at last the counts and the refusal
 // that ended it. What stands in the lines is said by the crate `listing_load`; here is the reading and the writing.
+#![tactic(auto)]
+
 ghost use Rattle.std.specs.Prelude.{◌≤◌, length};
 ghost use Rattle.listing_lines.specs.Lines.{room};
 ghost use Rattle.listing.specs.Turns.{HeldIn, RoomIn};

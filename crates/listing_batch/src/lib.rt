@@ -1,4 +1,6 @@
 // The lines of successive loads, put into one lent buffer.
+#![tactic(auto)]
+
 ghost use Rattle.std.specs.Prelude.{◌≡◌, length};
 ghost use Rattle.scan_cdp.specs.Answers.{load_answer};
 ghost use Rattle.scan_cdp.specs.Steps.{with_lent};

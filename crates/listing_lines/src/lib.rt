@@ -1,4 +1,6 @@
 // The lines of the listing: a line with a position, and the last lines.
+#![tactic(auto)]
+
 ghost use Rattle.text.specs.Put.{Put};
 ghost use Rattle.scan_cdp.specs.Answers.{number_of};
 ghost use Rattle.listing_lines.specs.Lines.{count_line, last_lines, line_at};

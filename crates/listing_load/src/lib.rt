@@ -1,4 +1,6 @@
 // One load with what the listing says of it.
+#![tactic(auto)]
+
 ghost use Rattle.scan_cdp.specs.Loads.{loaded};
 ghost use Rattle.scan_cdp.specs.Steps.{with_lent};
 ghost use Rattle.listing_load.specs.LoadLines.{Lists};

@@ -1,4 +1,6 @@
 // The lines of a packet: its row, and its verdict if it is not sound.
+#![tactic(auto)]
+
 ghost use Rattle.std.specs.Prelude.{not, ◌≡◌};
 ghost use Rattle.text.specs.Put.{Put};
 ghost use Rattle.validators.specs.Verdict.{settled_by, sound_to};

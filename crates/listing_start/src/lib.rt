@@ -1,4 +1,6 @@
 // What the listing program starts with: its settings and its validator.
+#![tactic(auto)]
+
 ghost use Rattle.std.specs.Prelude.{◌≡◌};
 ghost use Rattle.listing_start.specs.Start.{list_settings, new_validator};
 

@@ -1,5 +1,7 @@
 // The window of a scan on an input that is read as the scan goes on: a buffer, and what it holds of the input. The input may be a file
 // or a pipe, and a read may give any number of bytes.
+#![tactic(auto)]
+
 ghost use Rattle.std.specs.Prelude.{◌≡◌, ◌-◌, ◌≤◌, ◌<◌, min, length};
 ghost use Rattle.listing_window.specs.Held.{ReadsOn, Shows, held_from, nothing, nothing_from, slid};
 

@@ -1,4 +1,6 @@
 // Code over numbers that every layer calls.
+#![tactic(auto)]
+
 ghost use Rattle.std.specs.Prelude.{◌≡◌, max, min};
 
 // The lesser of two lengths or places.

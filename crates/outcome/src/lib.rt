@@ -1,4 +1,6 @@
 // What becomes of one header: the refusals and the filter, in their order.
+#![tactic(auto)]
+
 ghost use Rattle.std.specs.Prelude.{◌≡◌};
 ghost use Rattle.scan_cdp.specs.Steps.{is_first};
 ghost use Rattle.scan_cdp.specs.Outcomes.{bad_memory_size, bad_offset, is_counted, filtered, hands_out, matched, outcome_of};

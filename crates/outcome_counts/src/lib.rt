@@ -1,4 +1,6 @@
 // What the outcome of one header counts.
+#![tactic(auto)]
+
 ghost use Rattle.std.specs.Prelude.{◌≡◌};
 ghost use Rattle.scan_cdp.specs.Steps.{raised, tallied};
 

@@ -1,4 +1,6 @@
 // What the outcome of one header answers, and the initial mark.
+#![tactic(auto)]
+
 ghost use Rattle.std.specs.Prelude.{◌≡◌};
 ghost use Rattle.scan_cdp.specs.Answers.{examined_answer, refusal};
 ghost use Rattle.scan_cdp.specs.Outcomes.{skip_distance};

@@ -1,4 +1,6 @@
 // How far the outcome of one header moves byte place and position, and what becomes of its load.
+#![tactic(auto)]
+
 ghost use Rattle.std.specs.Prelude.{◌≡◌, ◌+◌, ◌≤◌};
 ghost use Rattle.outcome_moves.specs.Moves.{PlaceMoves, PositionMoves};
 ghost use Rattle.scan_cdp.specs.Steps.{load_after, start_of};

@@ -1,4 +1,6 @@
 // How much of a packet's payload is handed out, and where it stands in the window.
+#![tactic(auto)]
+
 ghost use Rattle.std.specs.Prelude.{◌≡◌};
 ghost use Rattle.scan_cdp.specs.Steps.{cut};
 ghost use Rattle.scan_cdp.specs.Windows.{part_at};

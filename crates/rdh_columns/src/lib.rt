@@ -1,4 +1,6 @@
 // The columns of the row that shows a header: their values, and how they are written.
+#![tactic(auto)]
+
 ghost use Rattle.std.specs.Prelude.{◌≡◌};
 ghost use Rattle.rdh_columns.specs.Columns.{columns_of, columns_text};
 ghost use Rattle.text.specs.Put.{Put};

@@ -1,4 +1,6 @@
 // The row that shows a header's key values in columns, as the Rust's `Display` writes it.
+#![tactic(auto)]
+
 ghost use Rattle.rdh_row.specs.Row.{row_text};
 ghost use Rattle.text.specs.Put.{Put};
 ghost use Rattle.text.specs.Written.{Needed, Writes};

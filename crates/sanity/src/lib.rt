@@ -1,5 +1,7 @@
 // The tests of a header, one by one: what the Rust's validators call a sanity check, without its text. A module for each word of the
 // header; each function answers whether its test fails.
+#![tactic(auto)]
+
 ghost use Rattle.std.specs.Prelude.{◌≡◌};
 ghost use Rattle.sanity.specs.Tests.{reserved0_test};
 

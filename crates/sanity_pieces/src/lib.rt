@@ -1,4 +1,6 @@
 // The pieces of text that name single failures, in the Rust's words: nothing where the test passed.
+#![tactic(auto)]
+
 ghost use Rattle.std.specs.Prelude.{[], ◌++◌};
 ghost use Rattle.basis.specs.Pick.{pick};
 ghost use Rattle.text.specs.Ascii.{ascii};

@@ -1,5 +1,7 @@
 // The text that names what is wrong with a header, in the Rust's words. A module for each word of the header, as the Rust has a validator
 // for each.
+#![tactic(auto)]
+
 ghost use Rattle.sanity.specs.Tests.{failure_text};
 ghost use Rattle.text.specs.Put.{Put};
 

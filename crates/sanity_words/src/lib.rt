@@ -1,4 +1,6 @@
 // Whether a header fails any test. A module for each word of the header. Every function answers without a branch.
+#![tactic(auto)]
+
 ghost use Rattle.std.specs.Prelude.{◌≡◌};
 ghost use Rattle.sanity.specs.Tests.{all_tests, any_fails};
 

@@ -30,7 +30,7 @@ pub data Found (P : Type 0) : Type 0 where
 
 -- What is handed out, or answered, with the payload said in another way.
 abbrev pub handed_as : {P Q : Type 0} → (P → Q) → Handed P → Handed Q
-handed_as f p = record { header = p.header; payload = f p.payload; position = p.position; own_val = p.own }
+handed_as f p = record { header = p.header; payload = f p.payload; position = p.position; own = p.own }
 
 abbrev pub answer_as : {P Q : Type 0} → (P → Q) → Answer (Found P) → Answer (Found Q)
 answer_as f (gives passed) = gives passed
@@ -59,7 +59,7 @@ refusal why = refuses (number_of why) (values_of why)
 
 -- The code's packet.
 abbrev pub handed_by : Packet → Handed Part
-handed_by packet = record { header = packet.rdh; payload = packet.payload; position = packet.position; own_val = packet.own }
+handed_by packet = record { header = packet.rdh; payload = packet.payload; position = packet.position; own = packet.own }
 
 -- What a load answers.
 abbrev pub load_answer : LoadCdp → Answer (Found Part)

@@ -203,7 +203,7 @@ answer_in FeeIdsFull h payload start position = refuses 4 []
 answer_in BadOffset h payload start position = refuses 2 (skip_distance (offset h) ∷ pos position.0 ∷ [])
 answer_in MemorySize h payload start position = refuses 3 []
 answer_in Passed h payload start position = gives passed
-answer_in HandedOut h payload start position = gives (handed (record { header = h; payload = payload; position = start; own_val = position }))
+answer_in HandedOut h payload start position = gives (handed (record { header = h; payload = payload; position = start; own = position }))
 
 -- The payload's bytes behind the header; none where it is skipped or cut (S6).
 unfoldable pub payload_of : Bool → Outcome → RdhCru → List ℕ → List ℕ

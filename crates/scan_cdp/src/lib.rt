@@ -1,4 +1,5 @@
 // What a scan is asked for, keeps and answers: the layer below the reading of a window.
+#![tactic(auto)]
 
 ghost use Rattle.std.specs.Prelude.{◌≡◌};
 ghost use Rattle.scan_cdp.specs.Answers.{number_of};

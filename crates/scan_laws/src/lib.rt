@@ -1,1 +1,2 @@
 // Laws of the step, of the examination and of the load. There is no code.
+#![tactic(auto)]

@@ -1,4 +1,6 @@
 // What an examination lists: the link and the FEE id of a header that was counted, in the lists that are lent.
+#![tactic(auto)]
+
 ghost use Rattle.std.specs.Prelude.{◌≡◌};
 ghost use Rattle.scan_cdp.specs.Steps.{places_listed, used_listed};
 

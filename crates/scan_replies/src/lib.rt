@@ -1,4 +1,6 @@
 // What an examination replies, and the replies that find no header: one that changes nothing, a want for a header, and the end.
+#![tactic(auto)]
+
 ghost use Rattle.std.specs.Prelude.{◌≡◌};
 ghost use Rattle.scan_cdp.specs.Answers.{load_answer};
 ghost use Rattle.scan_cdp.specs.Steps.{no_marks};

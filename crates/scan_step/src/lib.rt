@@ -1,5 +1,7 @@
 // One examination, on the links, trigger counts and FEE ids where they stand. Whether a link is listed twice is not asked here: a load asks it
 // once.
+#![tactic(auto)]
+
 ghost use Rattle.std.specs.Prelude.{◌≡◌, length};
 ghost use Rattle.scan_cdp.specs.Steps.{numbers_unusable, with_lent};
 ghost use Rattle.scan_cdp.specs.Windows.{examined_unless};

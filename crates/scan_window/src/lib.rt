@@ -1,4 +1,6 @@
 // What a window can show: refusal 6 by the state's numbers and by the window, where a place is in the window, and a payload as a part of it.
+#![tactic(auto)]
+
 ghost use Rattle.std.specs.Prelude.{◌≡◌, min};
 ghost use Rattle.scan_cdp.specs.Steps.{numbers_unusable};
 ghost use Rattle.scan_cdp.specs.Windows.{bytes_at, outside};

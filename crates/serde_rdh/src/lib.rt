@@ -1,4 +1,6 @@
 // The header from and to its 64 bytes, and equality by bytes: the Rust's traits `SerdeRdh` and `ByteSlice`. A module for each word.
+#![tactic(auto)]
+
 ghost use Rattle.std.specs.Prelude.{◌≡◌, ◌++◌};
 ghost use Rattle.basis.specs.Bytes.{bytes_of};
 ghost use Rattle.serde_rdh.specs.Layout.{decode, encode, encoded_into, Equal};

@@ -1,4 +1,6 @@
 // Numbers of several bytes, lowest byte first: each is joined from its low and its high half.
+#![tactic(auto)]
+
 ghost use Rattle.serde_rdh_numbers.specs.Joined.{Joined};
 
 pub fn join_u8(low: u8, high: u8) -> u16

@@ -1,4 +1,6 @@
 // The eight words of a header, each of eight bytes, lowest byte first: written in a row, and compared.
+#![tactic(auto)]
+
 ghost use Rattle.std.specs.Prelude.{not, true, ◌↔◌, ◌≡◌, ◌+◌, ◌≤◌, ltb, length};
 ghost use Rattle.std.proofs.lemmas.List.Edits.{sets};
 ghost use Rattle.basis.specs.Bytes.{bytes_of};

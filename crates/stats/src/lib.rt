@@ -1,4 +1,6 @@
 // The counts and lists of a scan, as the Rust's `Stats` keeps them.
+#![tactic(auto)]
+
 ghost use Rattle.std.specs.Prelude.{◌≡◌};
 ghost use Rattle.stats.specs.Counts.{added};
 ghost use Rattle.stats.specs.Lists.{full, places_after, used_after};

@@ -1,4 +1,6 @@
 // Searches through the used part of a list of links or FEE ids.
+#![tactic(auto)]
+
 ghost use Rattle.std.specs.Prelude.{◌≡◌, take};
 ghost use Rattle.stats_search.specs.Search.{member, twice};
 

@@ -1,6 +1,8 @@
 // Texts into a lent buffer. Every `put_` function takes a buffer and a place, writes what fits of its text from that place
 // on, and gives the place behind the whole text. So a text is put piece by piece, and putting it into an empty buffer
 // measures it.
+#![tactic(auto)]
+
 ghost use Rattle.std.specs.Prelude.{◌≡◌, [], ◌∷◌, ◌+◌, min, replicate};
 ghost use Rattle.text.specs.Put.{Put, last_place};
 

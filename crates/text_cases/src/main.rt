@@ -1,5 +1,6 @@
 // Shows how the crate `text` is used from Rattle: texts put into buffers of many lengths at many places. Each line has the buffer, which
 // held dots before, between brackets, and the place that was given back.
+#![tactic(auto)]
 
 // What is put: a byte, a number of blanks, a number, alone or with the width that it is padded to, or a position.
 #[derive(Drop)]

@@ -1,4 +1,6 @@
 // Numbers as texts in a lent buffer, put as `text` puts bytes: in decimal, in hexadecimal, and with blanks up to a width.
+#![tactic(auto)]
+
 ghost use Rattle.std.specs.Prelude.{◌≡◌, ◌-◌, ◌<◌};
 ghost use Rattle.text.specs.Put.{Put};
 ghost use Rattle.text_numbers.specs.Numerals.{decimal, glyph, hex, left, right};

@@ -1,5 +1,7 @@
 // A text writer: it holds a lent buffer and the number of bytes written. Each function takes the writer apart and calls one of `text`'s on
 // the buffer and the number, so a text that does not fit is written as far as it fits and counted whole: the count is then the length needed.
+#![tactic(auto)]
+
 ghost use Rattle.std.specs.Prelude.{◌≡◌, [], ◌∷◌, suc, length, take};
 ghost use Rattle.text_numbers.specs.Numerals.{decimal, hex, left, right};
 ghost use Rattle.text_writer.specs.Writer.{begun, extended};

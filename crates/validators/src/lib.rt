@@ -1,4 +1,6 @@
 // The verdict: whether a header is sound, in the Rust's words.
+#![tactic(auto)]
+
 ghost use Rattle.std.specs.Prelude.{◌≡◌};
 ghost use Rattle.sanity.specs.Tests.{failure_text};
 ghost use Rattle.text.specs.Written.{Needed};

@@ -1,4 +1,6 @@
 // The check of a header by a validator that is lent and updated where it stands, as the Rust's `sanity_check(&mut self, ..)`.
+#![tactic(auto)]
+
 ghost use Rattle.validators_lent.specs.Lent.{ChecksLent};
 ghost use Rattle.validators.specs.Verdict.{Checks};
 

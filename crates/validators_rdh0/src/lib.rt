@@ -1,4 +1,6 @@
 // The verdict on a header's first word alone: the Rust's `Rdh0Validator`.
+#![tactic(auto)]
+
 ghost use Rattle.std.specs.Prelude.{◌≡◌, length};
 ghost use Rattle.sanity.specs.Tests.{rdh0_tests, section};
 ghost use Rattle.validators_rdh0.specs.Rdh0Verdict.{Checks, criteria_of, settled_by};

@@ -1,6 +1,8 @@
 // Tries the verdict on RDH0. Standard input has words of eight bytes, at most 8,192 of them, and each is answered by a line: `sound`, or
 // the text that names what is wrong. They are checked one after the other by a validator that has no version and no ITS, so that the
 // first settles the header ID.
+#![tactic(auto)]
+
 use libc::STDIN_FILENO;
 use rdh::rdh0::{FeeId, Rdh0};
 use serde_rdh_numbers::join_u8;
