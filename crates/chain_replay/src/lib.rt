@@ -11,7 +11,7 @@ use scan_cdp::{Part, Progress, Settings};
 use trigger_stats::COUNTERS;
 
 // The last reply, and how many calls were made.
-#[derive(Drop)]
+#[derive(Clone, Copy)]
 pub struct Replayed {
     pub last: Called,
     pub made: usize,

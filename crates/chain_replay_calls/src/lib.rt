@@ -13,7 +13,7 @@ use scan_cdp::{BytePlace, Examined, LoadCdp, LoadMarks, Marks, Part, Progress, R
 use trigger_stats::COUNTERS;
 
 // One call as it is asked for.
-#[derive(Drop)]
+#[derive(Clone, Copy)]
 pub struct Asked {
     pub load: bool,
     pub first: u64,
@@ -22,7 +22,7 @@ pub struct Asked {
 }
 
 // What a call answered, with its marks; nothing before the first one.
-#[derive(Drop)]
+#[derive(Clone, Copy)]
 pub enum Told {
     Nothing,
     Examination(Examined, Marks),
@@ -31,7 +31,7 @@ pub enum Told {
 
 // What a call replied, the part of the recording that was its window, and whether the reply ends the chain. Links, trigger counts and
 // FEE ids are left where they are lent.
-#[derive(Drop)]
+#[derive(Clone, Copy)]
 pub struct Called {
     pub told: Told,
     pub window: Part,
@@ -40,7 +40,7 @@ pub struct Called {
 }
 
 // What a call told, and how far the scan then is.
-#[derive(Drop)]
+#[derive(Clone, Copy)]
 struct Made {
     told: Told,
     progress: Progress,

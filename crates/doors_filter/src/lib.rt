@@ -10,7 +10,7 @@ use doors_staves::{NO_REFUSAL, NOT_A_STAVE_NAME};
 use its_names::StaveFeeId;
 
 #[repr(C)]
-#[derive(Drop)]
+#[derive(Clone, Copy)]
 pub struct PlainStaveSet {
     pub settings: PlainSettings,
     pub refusal: u32,

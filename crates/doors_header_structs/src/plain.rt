@@ -12,7 +12,7 @@ use text::Written;
 
 // The fields of a header in the order of its bytes.
 #[repr(C)]
-#[derive(Drop)]
+#[derive(Clone, Copy)]
 pub struct PlainHeader {
     pub header_id: u8,
     pub header_size: u8,
@@ -41,7 +41,7 @@ pub struct PlainHeader {
 
 // How many bytes were written, with refusal 0, or how many are needed, with refusal 7.
 #[repr(C)]
-#[derive(Drop)]
+#[derive(Clone, Copy)]
 pub struct PlainText {
     pub length: usize,
     pub refusal: u32,

@@ -10,7 +10,7 @@ use serde_rdh::{FromBuf, ToByteSlice};
 const FEWER_THAN_64: u32 = 9;
 
 #[repr(C)]
-#[derive(Drop)]
+#[derive(Clone, Copy)]
 pub struct PlainDecoded {
     pub header: PlainHeader,
     pub refusal: u32,
@@ -18,7 +18,7 @@ pub struct PlainDecoded {
 
 // The fields that share a number with others, and whether the trigger type has the bit of a physics trigger.
 #[repr(C)]
-#[derive(Drop)]
+#[derive(Clone, Copy)]
 pub struct PlainHeaderParts {
     pub bc_reserved: u32,
     pub bc: u16,

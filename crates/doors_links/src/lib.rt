@@ -12,7 +12,7 @@ use link_continuity::{LINKS, LinkCheck, check_link};
 
 // Which fields of the header are not as they must be, and how far its packet counter is ahead of the expected one.
 #[repr(C)]
-#[derive(Drop)]
+#[derive(Clone, Copy)]
 pub struct PlainLinkCheck {
     pub packet_counter: bool,
     pub pages_counter: bool,

@@ -21,7 +21,7 @@ const FULL: u32 = 4;
 // A listing, as far as it went: why it stopped, what to go on with, how many bytes were written (or are needed, with refusal 7), and how many
 // of the packets are not sound.
 #[repr(C)]
-#[derive(Drop)]
+#[derive(Clone, Copy)]
 pub struct PlainListed {
     pub answer: PlainAnswer,
     pub state: PlainState,

@@ -20,7 +20,7 @@ const REFUSED: u32 = 3;
 
 // What a call found: its kind, and what that kind has; all else is 0.
 #[repr(C)]
-#[derive(Drop)]
+#[derive(Clone, Copy)]
 pub struct PlainAnswer {
     pub position: u64,
     pub own: u64,
@@ -35,7 +35,7 @@ pub struct PlainAnswer {
 
 // What is reported of the headers that a call examined. Trigger type, data format and system id are 0 where there is no initial mark.
 #[repr(C)]
-#[derive(Drop)]
+#[derive(Clone, Copy)]
 pub struct PlainMarks {
     pub seen_carries: u64,
     pub trigger_type: u32,
@@ -49,7 +49,7 @@ pub struct PlainMarks {
 
 // What an examination or a load replies, but for the lists and the header's bytes, which are lent.
 #[repr(C)]
-#[derive(Drop)]
+#[derive(Clone, Copy)]
 pub struct PlainReply {
     pub answer: PlainAnswer,
     pub marks: PlainMarks,

@@ -9,7 +9,7 @@ use scan_cdp::{BytePlace, Counts, OpenLoad, Position, Progress, Settings};
 
 // What a scan is asked for. A filter's number counts only where its `by_` is set.
 #[repr(C)]
-#[derive(Drop)]
+#[derive(Clone, Copy)]
 pub struct PlainSettings {
     pub by_link: bool,
     pub by_fee: bool,
@@ -24,7 +24,7 @@ pub struct PlainSettings {
 // What a scan keeps between two calls, beside the links, the trigger counts and the FEE ids, which are lent. `load_start` counts only while a
 // load is open, and is left at 0 otherwise.
 #[repr(C)]
-#[derive(Drop)]
+#[derive(Clone, Copy)]
 pub struct PlainState {
     pub place: u64,
     pub position: u64,

@@ -13,7 +13,7 @@ pub const NO_REFUSAL: u32 = 0;
 pub const NOT_A_STAVE_NAME: u32 = 8;
 
 #[repr(C)]
-#[derive(Drop)]
+#[derive(Clone, Copy)]
 pub struct PlainFeeParts {
     pub layer: u8,
     pub stave: u8,
@@ -21,7 +21,7 @@ pub struct PlainFeeParts {
 }
 
 #[repr(C)]
-#[derive(Drop)]
+#[derive(Clone, Copy)]
 pub struct PlainNamed {
     pub refusal: u32,
     pub fee_id: u16,

@@ -16,7 +16,7 @@ pub mod plain;
 
 // The text's length, the verdict, and the validator for the next header.
 #[repr(C)]
-#[derive(Drop)]
+#[derive(Clone, Copy)]
 pub struct PlainChecked {
     pub length: usize,
     pub refusal: u32,

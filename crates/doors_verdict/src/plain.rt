@@ -6,7 +6,7 @@ use validators::{HeaderId, RdhCruSanityValidator};
 
 // The header ID is the configured one; or else the settled one; or else none.
 #[repr(C)]
-#[derive(Drop)]
+#[derive(Clone, Copy)]
 pub struct PlainValidator {
     pub configured: bool,
     pub settled: bool,

@@ -5,13 +5,13 @@ ghost use Rattle.std.specs.Prelude.{◌≡◌};
 ghost use Rattle.filter.specs.Filter.{is_set8, is_set16, target_of, enabled, matches};
 
 // A number that may be set, for links and for FEE ids.
-#[derive(Drop)]
+#[derive(Clone, Copy)]
 pub enum Option8 {
     None,
     Some(u8),
 }
 
-#[derive(Drop)]
+#[derive(Clone, Copy)]
 pub enum Option16 {
     None,
     Some(u16),
@@ -40,7 +40,7 @@ impl Option16 {
 }
 
 // The filters of the settings. Several may be set at once.
-#[derive(Drop)]
+#[derive(Clone, Copy)]
 pub struct FilterOpt {
     pub filter_link: Option8,
     pub filter_fee: Option16,
@@ -48,7 +48,7 @@ pub struct FilterOpt {
 }
 
 // What a header is compared with: `All` where no filter is set, which the Rust has as `None`.
-#[derive(Drop)]
+#[derive(Clone, Copy)]
 pub enum FilterTarget {
     Link(u8),
     Fee(u16),

@@ -9,7 +9,7 @@ use filter::{FilterOpt, Option16};
 use its_names::StaveFeeId;
 
 // What is answered to the name of a stave, and the filters from then on.
-#[derive(Drop)]
+#[derive(Clone, Copy)]
 pub struct StaveSetting {
     pub named: StaveFeeId,
     pub filter: FilterOpt,

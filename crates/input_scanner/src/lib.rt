@@ -17,7 +17,7 @@ use scan_step::take_step;
 use trigger_stats::COUNTERS;
 
 // What a load replies. Links, trigger counts and FEE ids are left where they are lent.
-#[derive(Drop)]
+#[derive(Clone, Copy)]
 pub struct Load {
     pub answer: LoadCdp,
     pub marks: LoadMarks,

@@ -12,14 +12,14 @@ use its_names_numbers::{ParsedU8, parse_u8};
 const LAYER_STEP: u16 = 0x1000;
 
 // The FEE id that a stave name stands for, or refusal 8.
-#[derive(Drop)]
+#[derive(Clone, Copy)]
 pub enum StaveFeeId {
     FeeId(u16),
     NotAStaveName,
 }
 
 // The layer and the stave that a text has if it has the form of a stave name, be there such a stave or not.
-#[derive(Drop)]
+#[derive(Clone, Copy)]
 enum ParsedName {
     Stave(u8, u8),
     NotAStaveName,

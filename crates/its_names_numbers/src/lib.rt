@@ -10,7 +10,7 @@ ghost use Rattle.its_names_numbers.specs.Parsing.{DigitsParsed};
 const TOO_LARGE: u16 = 256;
 
 // The number that a part of a stave name is, if it is one.
-#[derive(Drop)]
+#[derive(Clone, Copy)]
 pub enum ParsedU8 {
     Number(u8),
     NotANumber,

@@ -13,7 +13,7 @@ use rdh::rdh_cru::RdhCru;
 pub const LINKS: usize = 256;
 
 // What is kept of the last header that was put on a link.
-#[derive(Drop)]
+#[derive(Clone, Copy)]
 pub struct LastHeader {
     pub packet_counter: u8,
     pub pages_counter: u16,
@@ -22,7 +22,7 @@ pub struct LastHeader {
 }
 
 // What is kept of a link: nothing before its first header.
-#[derive(Drop)]
+#[derive(Clone, Copy)]
 pub enum LinkKept {
     Nothing,
     Last(LastHeader),
@@ -30,7 +30,7 @@ pub enum LinkKept {
 
 // What a header yields: a flag for each field that is not as it must be behind the last header, and how far its packet counter is ahead of the
 // expected one, modulo 256.
-#[derive(Drop)]
+#[derive(Clone, Copy)]
 pub struct LinkCheck {
     pub packet_counter: bool,
     pub pages_counter: bool,

@@ -10,14 +10,14 @@ use listing_window::{Held, Refilled};
 use scan_cdp::{BytePlace, LoadCdp, State};
 
 // What comes after a load: the next one on this window, or nothing more.
-#[derive(Drop)]
+#[derive(Clone, Copy)]
 enum Next {
     Window(Held),
     End,
 }
 
 // Where the next lines go in the buffer for the output, or nowhere, since a write failed.
-#[derive(Drop)]
+#[derive(Clone, Copy)]
 enum Room {
     At(usize),
     Failed,

@@ -13,7 +13,7 @@ use validators::RdhCruSanityValidator;
 
 // Why no further load was made: its lines might not have had the room; the buffer is shorter than listing_lines::ROOM, so that none was made at all;
 // or the last load answered this, which is no packet.
-#[derive(Drop)]
+#[derive(Clone, Copy)]
 pub enum Stop {
     Full,
     TooShort,
@@ -22,7 +22,7 @@ pub enum Stop {
 
 // What is left for the next call, how many bytes were put (or are needed, where the buffer is too short), and how many of the packets are not
 // sound.
-#[derive(Drop)]
+#[derive(Clone, Copy)]
 pub struct Batch {
     pub stop: Stop,
     pub progress: Progress,

@@ -11,7 +11,7 @@ use trigger_stats::COUNTERS;
 use validators::RdhCruSanityValidator;
 
 // A load, listed: its reply, the validator for the next packet, the place behind the lines, and whether it is a packet that is not sound.
-#[derive(Drop)]
+#[derive(Clone, Copy)]
 pub struct Listed {
     pub load: Load,
     pub validator: RdhCruSanityValidator,

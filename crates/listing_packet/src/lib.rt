@@ -13,7 +13,7 @@ use scan_cdp::Position;
 use validators::{RdhCruSanityValidator, Verdict};
 
 // The lines of a packet, put: the validator for the next packet, the place behind the lines, and whether the packet is not sound.
-#[derive(Drop)]
+#[derive(Clone, Copy)]
 pub struct PacketLines {
     pub validator: RdhCruSanityValidator,
     pub at: usize,

@@ -8,7 +8,7 @@ ghost use Rattle.listing_window.specs.Held.{ReadsOn, Shows, held_from, nothing, 
 use scan_cdp::{BytePlace, LIMIT};
 
 // What a buffer holds: so many bytes, from a byte place of the input on, and whether the input ends with them.
-#[derive(Drop)]
+#[derive(Clone, Copy)]
 pub struct Held {
     pub first: BytePlace,
     pub length: usize,
@@ -16,7 +16,7 @@ pub struct Held {
 }
 
 // What reading on answers: what is held then, or that a read failed, or that there is no buffer to read into.
-#[derive(Drop)]
+#[derive(Clone, Copy)]
 pub enum Refilled {
     Window(Held),
     Failed,

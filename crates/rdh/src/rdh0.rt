@@ -3,7 +3,7 @@ ghost use Rattle.std.specs.Prelude.{◌≡◌};
 ghost use Rattle.rdh.specs.Subfields.{layer_of, stave_of, uplink_of};
 
 // The FEE id, which packs the layer, the fibre uplink and the stave into 16 bits.
-#[derive(Drop)]
+#[derive(Clone, Copy)]
 pub struct FeeId(pub u16);
 
 impl FeeId {
@@ -28,7 +28,7 @@ impl FeeId {
     }
 }
 
-#[derive(Drop)]
+#[derive(Clone, Copy)]
 pub struct Rdh0 {
     pub header_id: u8,
     pub header_size: u8,

@@ -2,7 +2,7 @@
 ghost use Rattle.std.specs.Prelude.{◌≡◌};
 ghost use Rattle.rdh.specs.Subfields.{is_pht_trigger_type};
 
-#[derive(Drop)]
+#[derive(Clone, Copy)]
 pub struct Rdh2 {
     pub trigger_type: u32,
     pub pages_counter: u16,

@@ -15,14 +15,14 @@ pub const RDH_CRU_SIZE_BYTES: usize = 64;
 pub const RDH_SIZE: u16 = RDH_CRU_SIZE_BYTES as u16;
 
 // The number of the common readout unit, 12 bits, and of its data wrapper (dw), 4 bits above it.
-#[derive(Drop)]
+#[derive(Clone, Copy)]
 pub struct CruidDw(pub u16);
 
 // The data format, 8 bits, and 56 reserved bits above it.
-#[derive(Drop)]
+#[derive(Clone, Copy)]
 pub struct DataformatReserved(pub u64);
 
-#[derive(Drop)]
+#[derive(Clone, Copy)]
 pub struct RdhCru {
     pub rdh0: Rdh0,
     pub offset_new_packet: u16,

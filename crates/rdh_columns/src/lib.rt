@@ -9,7 +9,7 @@ use rdh::rdh_cru::RdhCru;
 use text_writer::TextWriter;
 
 // What the row shows of a header, in its order.
-#[derive(Drop)]
+#[derive(Clone, Copy)]
 pub struct Columns {
     pub header_id: u64,
     pub header_size: u64,

@@ -11,17 +11,17 @@ use stats::Count;
 use trigger_stats::COUNTERS;
 
 // A byte place in the recording, which the reading goes by (W2, F3).
-#[derive(Drop)]
+#[derive(Clone, Copy)]
 pub struct BytePlace(pub u64);
 
 // 2^60: no place, position or window end is above it (R6).
 pub const LIMIT: u64 = 1_152_921_504_606_846_976;
 
 // A reported position, which is printed and never read at: offsets alone move it (W2, F3).
-#[derive(Drop)]
+#[derive(Clone, Copy)]
 pub struct Position(pub u64);
 
-#[derive(Drop)]
+#[derive(Clone, Copy)]
 pub struct Settings {
     pub filter: FilterOpt,
     pub skip_payload: bool,
@@ -29,14 +29,14 @@ pub struct Settings {
 }
 
 // Whether a load is open, and the position that it started from. Only a header that was passed leaves one open (S7).
-#[derive(Drop)]
+#[derive(Clone, Copy)]
 pub enum OpenLoad {
     None,
     From(Position),
 }
 
 // The three counts of a scan.
-#[derive(Drop)]
+#[derive(Clone, Copy)]
 pub struct Counts {
     pub seen: u32,
     pub filtered: u32,
@@ -45,7 +45,7 @@ pub struct Counts {
 
 // How far a scan has come: all of its state but the links and the trigger counts. The used numbers are those of the links and of the lent FEE
 // ids.
-#[derive(Drop)]
+#[derive(Clone, Copy)]
 pub struct Progress {
     pub place: BytePlace,
     pub position: Position,
@@ -56,7 +56,7 @@ pub struct Progress {
 }
 
 // The state that a scan keeps between two calls (W1). The FEE ids are in a list that is lent.
-#[derive(Drop)]
+#[derive(Clone, Copy)]
 pub struct State {
     pub progress: Progress,
     pub links: [u8; 256],
@@ -88,14 +88,14 @@ impl State {
 }
 
 // The mark of a load's first header at position 0, with what is assumed to be the same for the rest of the recording.
-#[derive(Drop)]
+#[derive(Clone, Copy)]
 pub enum Initial {
     None,
     Report(u32, u8, u8), // trigger type, data format, system id
 }
 
 // What is reported of one header (W8): the initial mark, counts that were full, and a payload that the recording's end cut (E100).
-#[derive(Drop)]
+#[derive(Clone, Copy)]
 pub struct Marks {
     pub initial: Initial,
     pub seen_carry: bool,
@@ -105,7 +105,7 @@ pub struct Marks {
 }
 
 // What is reported of all headers that a load examined (L2): the marks of each together, with the carries of seen as their number.
-#[derive(Drop)]
+#[derive(Clone, Copy)]
 pub struct LoadMarks {
     pub initial: Initial,
     pub seen_carries: u64,
@@ -115,14 +115,14 @@ pub struct LoadMarks {
 }
 
 // A part of the window (W9).
-#[derive(Drop)]
+#[derive(Clone, Copy)]
 pub struct Part {
     pub start: usize,
     pub length: usize,
 }
 
 // A packet: its header, where its payload is in the window, the position at which its load started, and its own, at which its header stands.
-#[derive(Drop)]
+#[derive(Clone, Copy)]
 pub struct Packet {
     pub rdh: RdhCru,
     pub payload: Part,
@@ -131,7 +131,7 @@ pub struct Packet {
 }
 
 // Refusals 1 to 4, and 6: why there is no 5, R5 says.
-#[derive(Drop)]
+#[derive(Clone, Copy)]
 pub enum Refusal {
     End,
     OffsetToNext(i32, Position), // the offset less 64, and the position of the header
@@ -156,7 +156,7 @@ impl Refusal {
 }
 
 // What a load answers: a packet; a want for so many bytes from a place on; or a refusal.
-#[derive(Drop)]
+#[derive(Clone, Copy)]
 pub enum LoadCdp {
     Packet(Packet),
     Want(BytePlace, u64),
@@ -164,14 +164,14 @@ pub enum LoadCdp {
 }
 
 // What the examination of one header answers: it was passed, or it ends the load.
-#[derive(Drop)]
+#[derive(Clone, Copy)]
 pub enum Examined {
     Passed,
     Answered(LoadCdp),
 }
 
 // A header is refused with 4, 2 or 3, is passed, or is handed out.
-#[derive(Drop)]
+#[derive(Clone, Copy)]
 pub enum Outcome {
     FeeIdsFull,
     BadOffset,
@@ -181,7 +181,7 @@ pub enum Outcome {
 }
 
 // The three counts after a header, each with whether it was full and started again.
-#[derive(Drop)]
+#[derive(Clone, Copy)]
 pub struct Tally {
     pub seen: Count,
     pub filtered: Count,

@@ -13,7 +13,7 @@ use scan_cdp::{BytePlace, Examined, Initial, LoadCdp, Marks, OpenLoad, Progress,
 pub const WANTED_HEADER: u64 = RDH_CRU_SIZE_BYTES as u64;
 
 // What the examination of one header replies. Links, trigger counts and FEE ids are left where they are lent.
-#[derive(Drop)]
+#[derive(Clone, Copy)]
 pub struct Examination {
     pub answer: Examined,
     pub marks: Marks,

@@ -19,14 +19,14 @@ mod rdh2;
 mod rdh3;
 
 // What `from_buf` answers.
-#[derive(Drop)]
+#[derive(Clone, Copy)]
 pub enum FromBuf {
     Rdh(RdhCru),
     TooShort,
 }
 
 // What `to_byte_slice` answers.
-#[derive(Drop)]
+#[derive(Clone, Copy)]
 pub enum ToByteSlice {
     Written,
     TooShort,

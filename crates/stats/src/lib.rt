@@ -9,7 +9,7 @@ pub use stats_search::has_link_twice;
 use stats_search::{has_fee_id, has_link};
 
 // A count, and whether it was full and started again at 0.
-#[derive(Drop)]
+#[derive(Clone, Copy)]
 pub struct Count {
     pub value: u32,
     pub carry: bool,

@@ -8,7 +8,7 @@ ghost use Rattle.text.specs.Put.{Put, last_place};
 
 // What a function answers that writes a whole text: how many bytes it wrote, or, where the buffer is too short and nothing
 // was written, how many it needs.
-#[derive(Drop)]
+#[derive(Clone, Copy)]
 pub enum Written {
     Text(usize),
     TooShort(usize),

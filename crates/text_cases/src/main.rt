@@ -3,7 +3,7 @@
 #![tactic(auto)]
 
 // What is put: a byte, a number of blanks, a number, alone or with the width that it is padded to, or a position.
-#[derive(Drop)]
+#[derive(Clone, Copy)]
 enum Piece {
     Byte(u8),
     Blanks(usize),

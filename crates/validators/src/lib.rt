@@ -10,7 +10,7 @@ use rdh::rdh_cru::RdhCru;
 use sanity::Criteria;
 
 // The header ID that headers are held to: the configured version; or none yet; or that of the first header checked.
-#[derive(Drop)]
+#[derive(Clone, Copy)]
 pub enum HeaderId {
     Configured(u8),
     NotSettled,
@@ -19,14 +19,14 @@ pub enum HeaderId {
 
 // A validator: its settings (a configured version or none, and whether the system id is tested as that of the ITS), and what it has
 // settled. A new one is `Configured` or `NotSettled`.
-#[derive(Drop)]
+#[derive(Clone, Copy)]
 pub struct RdhCruSanityValidator {
     pub header_id: HeaderId,
     pub its: bool,
 }
 
 // Sound; not sound, with the length of the text that was written; or refused with the length that the text needs.
-#[derive(Drop)]
+#[derive(Clone, Copy)]
 pub enum Verdict {
     Sound,
     NotSound(usize),
@@ -34,7 +34,7 @@ pub enum Verdict {
 }
 
 // A check's reply: the verdict, and the validator for the next header.
-#[derive(Drop)]
+#[derive(Clone, Copy)]
 pub struct SanityCheck {
     pub verdict: Verdict,
     pub validator: RdhCruSanityValidator,

@@ -10,14 +10,14 @@ use sanity::Criteria;
 use validators::{HeaderId, Verdict};
 
 // Its settings and what it has settled, as those of a validator of whole headers.
-#[derive(Drop)]
+#[derive(Clone, Copy)]
 pub struct Rdh0Validator {
     pub header_id: HeaderId,
     pub its: bool,
 }
 
 // A check's reply: the verdict, and the validator for the next word.
-#[derive(Drop)]
+#[derive(Clone, Copy)]
 pub struct Rdh0Check {
     pub verdict: Verdict,
     pub validator: Rdh0Validator,

@@ -1,0 +1,15 @@
+-- The pieces, one behind the other.
+use Rattle.text.specs.PutLaws.{and_then}
+use Rattle.listing_lines.specs.Lines.{line_at}
+use borrow.Author.Rules.{rules}
+use Rattle.listing_lines.proofs.put_line.Goals as goal
+
+-- TODO
+slice-aggregate-put-bytes : tie.Need-slice-aggregate-put-bytes
+slice-aggregate-put-bytes c = search rules
+
+pub returns : goal.returns
+unfolding line_at
+returns c =
+    and_then (and_then (and_then c.put-at.ensures c.put_bytes-at.ensures) c.put_bytes-at-2.ensures)
+    c.put_byte.ensures
