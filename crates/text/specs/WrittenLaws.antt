@@ -2,7 +2,7 @@
 use Rattle.std.specs.Prelude.{ℕ, ◌≤◌, ◌<◌, ◌+◌, ◌≡◌, List, [], ◌∷◌, ◌++◌, pos, length, drop}
 use Rattle.std.proofs.Common.{ap, sym, ◌∙◌, le_trans, arith, le-leb}
 use Rattle.std.proofs.lemmas.Bool.{lt-leb}
-use Rattle.std.proofs.lemmas.List.Edits.{sets_eq}
+use Rattle.std.proofs.lemmas.List.Edits.{sets-eq}
 use Rattle.basis.specs.PickLaws.{on, off}
 use Rattle.basis.specs.Refusals.Answer.{gives, refuses}
 use Rattle.text.specs.declared.Written.TheVariants.{Text, TooShort}
@@ -41,6 +41,6 @@ fitting {t} {l} {m} {j} fits p =
     record {
       reply = ap gives is ∙ sym (on _ _ (le-leb (length t) (length l) fits));
       leaves =
-          p.stored ∙ sets_eq t l 0 whole ∙ ap (λ (n : ℕ). t ++ drop n l) from
+          p.stored ∙ sets-eq t l 0 whole ∙ ap (λ (n : ℕ). t ++ drop n l) from
           ∙ sym (on _ _ (le-leb (length t) (length l) fits));
     }

@@ -4,7 +4,7 @@ use mathlib.Core.Path.{◌≡◌, refl, ap, sym, ◌∙◌}
 use mathlib.Core.List.{List}
 use Prim.Native.Nat.{ℕ, suc, ◌+◌, ◌-◌, min}
 use native.Mathlib.Omega.{arith}
-use lib.ListN.{length, replicate, set, length-set, length-replicate}
+use lib.ListN.{replicate, set, length-set, length-replicate}
 use lib.Seq.{sets}
 use Rattle.text.specs.Put.{last_place}
 use Rattle.text.specs.PutLaws.{sets_one_more, sets_filled}

@@ -1,6 +1,6 @@
 use mathlib.Core.Path.{◌≡◌}
-use Prim.Native.Nat.{ℕ, ◌-◌, ◌≤◌, max}
-use lib.ListN.{length, replicate, set}
+use Prim.Native.Nat.{◌-◌, ◌≤◌, max}
+use lib.ListN.{length, replicate}
 use lib.Seq.{sets}
 use Rattle.text.proofs.put_blanks.Given as goal
 

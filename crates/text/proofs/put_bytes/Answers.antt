@@ -1,9 +1,9 @@
 -- After i turns the first i bytes have been put; each turn puts the next one behind them.
 use mathlib.Core.Path.{ap, sym, ◌∙◌}
-use Prim.Native.Nat.{ℕ, ◌-◌}
+use Prim.Native.Nat.{ℕ}
 use native.Mathlib.Numerals.{add-one}
 use native.Mathlib.Omega.{arith}
-use lib.ListN.{length, take}
+use lib.ListN.{take}
 use lib.Seq.{take-suc, take_all}
 use Rattle.text.specs.PutLaws.{and_then, put_nothing, respelled}
 use Rattle.text.specs.PutLaws.{same_length as kept-length}
