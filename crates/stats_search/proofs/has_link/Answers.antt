@@ -1,6 +1,5 @@
 -- Before i no element is the one that is looked for, so the whole used part has it just where the rest has.
 use mathlib.Core.Path.{refl}
-use Prim.Native.Nat.{◌-◌}
 use native.Mathlib.Omega.{arith}
 use Rattle.stats_search.specs.SearchLaws.{found, not_here, not_found}
 use Rattle.stats_search.proofs.has_link.Goals as goal

@@ -1,23 +1,16 @@
 -- From its end down, each link of the used part is looked up among those behind it.
 use Prim.Native.Nat.{ℕ, suc, ◌-◌, ◌<◌}
+use Rattle.std.proofs.Common.{List, Bool}
 use mathlib.Core.Bool.{true, false}
-use mathlib.Core.Path.{◌≡◌, ap, sym, subst, ◌∙◌}
+use mathlib.Core.Path.{ap, sym, subst, ◌∙◌}
 use native.Mathlib.Omega.{arith}
 use lib.ListN.{get_or, replicate, set}
 use Rattle.stats_search.specs.SearchLaws.{Walked, walk_begins, walk_ends, walk_finds, walk_goes_on}
 use Rattle.stats_search.proofs.has_link_twice.Goals as goal
 
--- where a link has been read: what the walk knows of those behind it, and that it is a byte of the list
-at-link : (c : goal.After-wide-link)
-    → Walked c.args.links.now c.args.used
-    (suc (c.loop-i.i - 1)) c.loop-i.later
-    × (get_or c.args.links.now (c.loop-i.i - 1) 0 < 256)
-at-link c =
-    let args = c.args in
-    let next : c.loop-i.i ≡ suc (c.loop-i.i - 1) = omega arith in (
-      subst (λ (k : ℕ). Walked args.links.now args.used k c.loop-i.later) next c.loop-i.invariant,
-      omega (arith, c.type_inv.links (c.loop-i.i - 1)),
-    )
+-- where the walk stands before a link: what it knows of those behind it
+stands : (links : List ℕ) (used i : ℕ) (later : List Bool) → Walked links used i later → 0 < i → Walked links used (suc (i - 1)) later
+stands links used i later walked h = subst (λ (k : ℕ). Walked links used k later) (omega arith) walked
 
 pub loop-i-init : goal.loop-i-init
 loop-i-init c =
@@ -31,7 +24,8 @@ bounds-later-link c = omega (arith, c.wide-link.ensures, c.type_inv.links (c.loo
 pub returns-then-later-link : goal.returns-then-later-link
 returns-then-later-link c =
     let later = c.loop-i.later in
-    let (walked, byte) = at-link c in
+    let walked = stands c.args.links.now c.args.used c.loop-i.i later c.loop-i.invariant (omega arith) in
+    let byte : get_or c.args.links.now (c.loop-i.i - 1) 0 < 256 = omega (arith, c.type_inv.links (c.loop-i.i - 1)) in
     walk_finds _ _ _ later walked byte (ap (λ (x : ℕ). get_or later x false) (sym c.wide-link.ensures) ∙ c.if-later-link.true)
 
 pub bounds-later-link-in-loop-i : goal.bounds-later-link-in-loop-i
@@ -42,7 +36,8 @@ loop-i-preserved c =
     let args = c.args in
     let later = c.loop-i.later in
     let link = c.wide-link.ensures in
-    let (walked, byte) = at-link c in
+    let walked = stands c.args.links.now c.args.used c.loop-i.i later c.loop-i.invariant (omega arith) in
+    let byte : get_or c.args.links.now (c.loop-i.i - 1) 0 < 256 = omega (arith, c.type_inv.links (c.loop-i.i - 1)) in
     subst (λ (x : ℕ). Walked args.links.now args.used (c.loop-i.i - 1) (set later x true)) (sym link)
     (walk_goes_on _ _ _ later walked byte (ap (λ (x : ℕ). get_or later x false) (sym link) ∙ c.if-later-link.false))
 

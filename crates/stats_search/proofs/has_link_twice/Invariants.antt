@@ -1,4 +1,3 @@
-use Prim.Native.Nat.{ℕ, ◌-◌}
 use Rattle.stats_search.specs.SearchLaws.{Walked}
 use Rattle.stats_search.proofs.has_link_twice.Given as goal
 
