@@ -1,5 +1,5 @@
 -- Laws of lists: what a number that is met leaves.
-use Rattle.std.specs.Prelude.{◌≡◌, ℕ, suc, ◌+◌, ◌<◌, ◌≤◌, Bool, true, false, not, ◌&&◌, ◌||◌, List, [], ◌∷◌, ◌++◌, length, take, ◌==◌, nat_lt, slice_set, refl}
+use Rattle.std.specs.Prelude.{◌≡◌, ℕ, ◌+◌, ◌<◌, ◌≤◌, Bool, true, false, not, ◌&&◌, ◌||◌, List, [], ◌∷◌, ◌++◌, length, take, ◌==◌, nat_lt, slice_set, refl}
 use Rattle.std.proofs.Math.Bool.{and-eq-true_iff}
 use Rattle.std.proofs.Common.{ap, ap₂, sym, ◌∙◌, arith, add-one, ne_eqb, lt-ltb, le-ltb, le-leb, ltb-true, length-set, take-suc-set}
 use Rattle.std.proofs.lemmas.Bool.{eqb-false, lt-leb, not-true}

@@ -6,10 +6,10 @@ use Rattle.stats.proofs.add.Goals as goal
 
 pub returns-then-sum : goal.returns-then-sum
 unfolding added
-returns-then-sum c = sym (on _ _ (eq-eqb _ _ (sym c.wrapping_add_u32-sum.ensures ∙ c.if-sum.true)))
+returns-then-sum c = sym (on _ _ (eq-eqb _ _ (sym c.wrapping_add_u32-sum.ensures.value ∙ c.if-sum.true)))
 
 pub returns : goal.returns
 unfolding added
 returns c =
-    ap (λ (n : ℕ). record { value = n; carry = false }) c.wrapping_add_u32-sum.ensures
-    ∙ sym (off _ _ (ne_eqb _ _ (λ full. c.if-sum.false (c.wrapping_add_u32-sum.ensures ∙ full))))
+    ap (λ (n : ℕ). record { value = n; carry = false }) c.wrapping_add_u32-sum.ensures.value
+    ∙ sym (off _ _ (ne_eqb _ _ (λ full. c.if-sum.false (c.wrapping_add_u32-sum.ensures.value ∙ full))))

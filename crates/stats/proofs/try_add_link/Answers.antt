@@ -4,14 +4,14 @@ use Rattle.stats.specs.ListsLaws.{known, new, no_place}
 use Rattle.stats.proofs.try_add_link.Goals as goal
 
 pub returns-then-links-used : goal.returns-then-links-used
-returns-then-links-used c = let stays = no_place _ _ _ c.if-links-used.true in (stays.number, stays.places)
+returns-then-links-used c = let stays = no_place _ _ _ c.if-links-used.true in record { used = stays.number; places = stays.places }
 
 pub returns-then-has_link : goal.returns-then-has_link
 returns-then-has_link c =
     let stays = known _ _ _ c.if-links-used.false (sym c.has_link.ensures ∙ c.if-has_link.true) in
-    (stays.number, stays.places)
+    record { used = stays.number; places = stays.places }
 
 pub returns : goal.returns
 returns c =
     let goes = new _ _ _ c.if-links-used.false (sym c.has_link.ensures ∙ c.if-has_link.false) in
-    (goes.number, goes.places)
+    record { used = goes.number; places = goes.places }
