@@ -5,7 +5,7 @@ use Prim.Native.Nat.{ℕ, suc, ◌+◌, ◌-◌, ◌*◌, ◌/◌, ◌%◌, ◌�
 use native.Mathlib.Numerals.{add-one}
 use native.Mathlib.Omega.{arith}
 use lib.ListN.{length, drop, get_or, set}
-use lib.Seq.{drop-cons, sets, sets_eq}
+use lib.Seq.{drop-cons, sets, sets-eq}
 use Rattle.basis.specs.Bytes.{bytes_of}
 use Rattle.basis.specs.BytesLaws.{length_bytes_of}
 use Rattle.serde_rdh_words.specs.WordBytes.{word_bytes}
@@ -41,4 +41,4 @@ sets_word l ws k below =
 pub sets_front : (l e : List ℕ) (n : ℕ) → length e ≡ n → n ≤ length l → sets l 0 e ≡ e ++ drop n l
 sets_front l e n whole fit =
     let all : 0 + length e ≡ n = omega arith in
-    sets_eq e l 0 (omega arith) ∙ ap (λ (k : ℕ). e ++ drop k l) all
+    sets-eq e l 0 (omega arith) ∙ ap (λ (k : ℕ). e ++ drop k l) all

@@ -7,7 +7,7 @@ use native.Mathlib.Omega.{arith}
 use lib.ListN.{length, take, drop, get_or, length-append}
 use lib.Seq.{take_at, drop_at, take-suc}
 use Rattle.basis.specs.Bytes.{bytes_of, little}
-use Rattle.basis.specs.BytesLaws.{length_bytes_of, little_bytes_of, bytes_of_join}
+use Rattle.basis.specs.BytesLaws.{length_bytes_of, little_bytes_of}
 use Rattle.serde_rdh_words.specs.WordBytes.{word_bytes}
 
 abbrev pub Fit : List ℕ → Type 0

@@ -3,8 +3,7 @@ use mathlib.Core.Path.{◌≡◌, ◌∙◌}
 use Prim.Native.Nat.{◌-◌}
 use native.Mathlib.Nat.{add-zero}
 use native.Mathlib.Omega.{arith}
-use lib.ListN.{length, length-set}
-use lib.Seq.{sets}
+use lib.ListN.{length-set}
 use Rattle.basis.specs.Bytes.{bytes_of}
 use Rattle.serde_rdh_words.proofs.Stores.{sets_next}
 use Rattle.serde_rdh_words.proofs.write_u64.Goals as goal
