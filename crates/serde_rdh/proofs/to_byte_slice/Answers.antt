@@ -21,12 +21,12 @@ pub returns-then-write_words : goal.returns-then-write_words
 unfolding encode
 returns-then-write_words c =
     let l = c.args.out.now in
-    let long = not-true (ltb (length l) 64) (sym c.write_words.ensures.0 ∙ c.if-write_words.true) in
-    (rw long, c.write_words.ensures.1 ∙ left_there _ _ l c.words.ensures)
+    let long = not-true (ltb (length l) 64) (sym c.write_words.ensures.fit ∙ c.if-write_words.true) in
+    record { answer = rw long; left = c.write_words.ensures.left ∙ left_there _ _ l c.words.ensures }
 
 pub returns : goal.returns
 unfolding encode
 returns c =
     let l = c.args.out.now in
-    let short = not-false (ltb (length l) 64) (sym c.write_words.ensures.0 ∙ c.if-write_words.false) in
-    (rw short, c.write_words.ensures.1 ∙ left_there _ _ l c.words.ensures)
+    let short = not-false (ltb (length l) 64) (sym c.write_words.ensures.fit ∙ c.if-write_words.false) in
+    record { answer = rw short; left = c.write_words.ensures.left ∙ left_there _ _ l c.words.ensures }
