@@ -23,10 +23,10 @@ pub returns-then-digit-lt48 : goal.returns-then-digit-lt48
 returns-then-digit-lt48 c =
     let i = c.loop-i.i in
     let below = c.loop-i-test.true in
-    λ n d. ⊎_elim (λ w. omega (arith, d.each i below)) (λ w. omega (arith, ltb-true, d.each i below)) c.then-digit-lt48.branch
+    λ n d. ⊎_elim (λ w. omega (arith, w, d.each i below)) (λ w. omega (arith, w, d.each i below)) c.then-digit-lt48.either
 
 pub with_digit-value-requires : goal.with_digit-value-requires
-with_digit-value-requires c = (omega arith, (c.if-digit-lt48.false, ltb-false _ _ c.if-digit-gt57.false))
+with_digit-value-requires c = (omega arith, (c.if-digit-lt48.false, c.if-digit-gt57.false))
 
 pub loop-i-preserved : goal.loop-i-preserved
 loop-i-preserved c =
@@ -34,7 +34,7 @@ loop-i-preserved c =
     let i = c.loop-i.i in
     let inv = c.loop-i.invariant in
     let spelt = digit_passed text i c.loop-i-test.true in
-    let digit : Digit (get_or text i 0) = (c.if-digit-lt48.false, ltb-false _ _ c.if-digit-gt57.false) in
+    let digit : Digit (get_or text i 0) = (c.if-digit-lt48.false, c.if-digit-gt57.false) in
     (omega arith, c.with_digit-value.ensures ∙ stopped _ _ _ inv.1 ∙ ap (min 256) (sym spelt), below_more _ _ inv.2 digit)
 
 pub returns-then-value-eq-TOO_LARGE : goal.returns-then-value-eq-TOO_LARGE

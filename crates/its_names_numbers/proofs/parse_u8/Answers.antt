@@ -10,6 +10,7 @@ use Rattle.its_names_numbers.specs.NumberLaws.{parsed_number, plain_parsed, sign
 use Rattle.its_names_numbers.specs.Parsing.{DigitsParsed}
 use Rattle.its_names_numbers.proofs.Slices.{to_end}
 use Rattle.its_names_numbers.proofs.parse_u8.Goals as goal
+use Rattle.its_names_numbers.proofs.parse_u8.Goals.{then-text-gt0+else-text-eq43, else-text-gt0}
 
 pub returns-then-text-eq43 : goal.returns-then-text-eq43
 returns-then-text-eq43 c =
@@ -25,5 +26,6 @@ returns c =
     let text = c.args.text.now in
     parsed_number text c.parse_digits-2.result
     (plain_parsed text
-    (λ digits e. ⊎_elim (λ w. w.2.left (ap (λ (t : List ℕ). get_or t 0 0) e)) (λ w. omega (arith, ap length e)) c.if-text-gt0.branch)
+    (λ digits e.
+    elim c.if-text-gt0.branch [ then-text-gt0+else-text-eq43 w ↦ w.if-text-eq43.false (ap (λ (t : List ℕ). get_or t 0 0) e) | else-text-gt0 w ↦ omega (arith, ap length e) ])
     c.parse_digits-2.result c.parse_digits-2.ensures)
