@@ -7,7 +7,6 @@ use Rattle.serde_rdh.specs.Layout.{decoded}
 use Rattle.scan_cdp.specs.Answers.{Found, answer_as, wants}
 use Rattle.scan_cdp.specs.Steps.{Entry, entry_as, limit, step_unless, unchanged, unusable}
 use Rattle.scan_cdp.specs.Outcomes.{payload_size}
-use Rattle.scan_cdp.specs.declared.BytePlace.{BytePlace}
 use Rattle.scan_cdp.specs.declared.Part.{Part}
 use Rattle.scan_cdp.specs.declared.Settings.{Settings}
 use Rattle.scan_cdp.specs.declared.State.{State}
