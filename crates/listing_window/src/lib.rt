@@ -6,6 +6,7 @@ ghost use Rattle.std.specs.Prelude.{◌≡◌, ◌-◌, ◌≤◌, ◌<◌, min,
 ghost use Rattle.listing_window.specs.Held.{ReadsOn, Shows, held_from, nothing, nothing_from, slid};
 
 use scan_cdp::{BytePlace, LIMIT};
+use std::io::{Read, Seek, SeekFrom};
 
 // What a buffer holds: so many bytes, from a byte place of the input on, and whether the input ends with them.
 #[derive(Clone, Copy)]
@@ -35,13 +36,19 @@ pub fn empty() -> Held
 
 // Reads on until the buffer holds `size` bytes from `place` on, or the input ends. It keeps the bytes from that place on. What it
 // reads in front of the place is dropped. A buffer that is too short for `size` bytes is filled.
-pub fn refill(fd: i32, buffer: &mut [u8], held: Held, place: BytePlace, size: u64) -> Refilled
+pub fn refill<R: Read + Seek>(
+    input: &mut R,
+    buffer: &mut [u8],
+    held: Held,
+    place: BytePlace,
+    size: u64,
+) -> Refilled
     ensures { Shows held buffer.old place.0 size buffer.new result }
 {
     let kept = slide(buffer, held, place);
-    let reached = pass(fd, buffer, kept, place);
+    let reached = pass(input, buffer, kept, place);
     match reached {
-        Refilled::Window(there) => fill(fd, buffer, there, size),
+        Refilled::Window(there) => fill(input, buffer, there, size),
         Refilled::Failed => Refilled::Failed,
     }
 }
@@ -82,7 +89,7 @@ fn distance(first: BytePlace, place: BytePlace, length: usize) -> usize
 }
 
 // Goes on to `place`: skips what a file has before it, and reads and drops what a pipe has. What is held is at the place already, or nothing is held.
-fn pass(fd: i32, buffer: &mut [u8], held: Held, place: BytePlace) -> Refilled
+fn pass<R: Read + Seek>(input: &mut R, buffer: &mut [u8], held: Held, place: BytePlace) -> Refilled
     requires { (held.length ≤ length buffer.old) × (held.first.0 < place.0 → held.length ≡ 0) }
     ensures { ReadsOn held buffer.old place.0 0 buffer.new result }
 {
@@ -92,18 +99,23 @@ fn pass(fd: i32, buffer: &mut [u8], held: Held, place: BytePlace) -> Refilled
     if place.0 <= held.first.0 {
         return Refilled::Window(held);
     }
-    if is_skipped(fd, place.0 - held.first.0) {
+    if is_skipped(input, place.0 - held.first.0) {
         return Refilled::Window(Held {
             first: place,
             length: 0,
             last: false,
         });
     }
-    drop_up_to(fd, buffer, held.first, place)
+    drop_up_to(input, buffer, held.first, place)
 }
 
 // Reads and drops the bytes from one place up to another that is ahead.
-fn drop_up_to(fd: i32, buffer: &mut [u8], from: BytePlace, place: BytePlace) -> Refilled
+fn drop_up_to<R: Read>(
+    input: &mut R,
+    buffer: &mut [u8],
+    from: BytePlace,
+    place: BytePlace,
+) -> Refilled
     requires { from.0 < place.0 }
     ensures { ReadsOn (nothing_from from) buffer.old place.0 0 buffer.new result }
 {
@@ -114,11 +126,9 @@ fn drop_up_to(fd: i32, buffer: &mut [u8], from: BytePlace, place: BytePlace) -> 
     while first < place.0 {
         let start = 0;
         let end = distance(BytePlace(first), place, buffer.len());
-        let got = libc::read(fd, &mut buffer[start..end]);
-        if got < 0 {
+        let Ok(n) = input.read(&mut buffer[start..end]) else {
             return Refilled::Failed;
-        }
-        let n = io::count(got, &buffer[start..end]);
+        };
         if n == 0 {
             return Refilled::Window(Held {
                 first: BytePlace(first),
@@ -136,13 +146,13 @@ fn drop_up_to(fd: i32, buffer: &mut [u8], from: BytePlace, place: BytePlace) -> 
 }
 
 // Skips so many bytes of the input, no more than byte places reach, if it is one that can be read from any place. A pipe is not, and answers
-// that with a number below 0.
-fn is_skipped(fd: i32, distance: u64) -> bool {
-    (distance <= LIMIT) && libc::lseek(fd, distance as i64, libc::SEEK_CUR) >= 0
+// that with an error.
+fn is_skipped<R: Seek>(input: &mut R, distance: u64) -> bool {
+    (distance <= LIMIT) && input.seek(SeekFrom::Current(distance as i64)).is_ok()
 }
 
 // Reads behind what is held, until there are `size` bytes, the buffer is full or the input ends.
-fn fill(fd: i32, buffer: &mut [u8], held: Held, size: u64) -> Refilled
+fn fill<R: Read>(input: &mut R, buffer: &mut [u8], held: Held, size: u64) -> Refilled
     requires { held.length ≤ length buffer.old }
     ensures { ReadsOn held buffer.old held.first.0 size buffer.new result }
 {
@@ -154,11 +164,9 @@ fn fill(fd: i32, buffer: &mut [u8], held: Held, size: u64) -> Refilled
         return Refilled::Window(held);
     }
     while length < wanted {
-        let got = libc::read(fd, &mut buffer[length..full]);
-        if got < 0 {
+        let Ok(n) = input.read(&mut buffer[length..full]) else {
             return Refilled::Failed;
-        }
-        let n = io::count(got, &buffer[length..full]);
+        };
         if n == 0 {
             return Refilled::Window(Held {
                 first,
