@@ -1,42 +1,37 @@
 // What the test programs print with. No contract can say what a program writes, so these functions promise only that they
-// are safe and end; what they wrote is held to the program's stored output.
+// are safe and end; what they wrote is held to the program's stored output. Where a write fails they answer with its error.
 #![tactic(auto)]
 
-use libc::STDOUT_FILENO;
+use std::io;
 
 // The bytes as they stand.
-pub fn text(s: &[u8]) {
-    io::write_all(STDOUT_FILENO, s);
+pub fn text(rt: &impl Print, s: &[u8]) -> io::Result<()> {
+    rt.write_all(s)
 }
 
 // A number in decimal, with a blank before it.
-pub fn number(n: u64) {
-    io::write_all(STDOUT_FILENO, b" ");
-    io::print_decimal(STDOUT_FILENO, n);
+pub fn number(rt: &impl Print, n: u64) -> io::Result<()> {
+    print!(rt; " {n}")
 }
 
 // A number in hexadecimal with `0x`, with a blank before it.
-pub fn hex(n: u64) {
-    io::write_all(STDOUT_FILENO, b" 0x");
-    io::print_hex(STDOUT_FILENO, n, 1);
+pub fn hex(rt: &impl Print, n: u64) -> io::Result<()> {
+    print!(rt; " 0x{n:x}")
 }
 
 // Each byte as two hexadecimal digits, with a blank before the first.
-pub fn bytes(s: &[u8]) {
-    io::write_all(STDOUT_FILENO, b" ");
+pub fn bytes(rt: &impl Print, s: &[u8]) -> io::Result<()> {
+    print!(rt; " ")?;
     let mut i = 0;
     while i < s.len() {
         let b = s[i];
-        io::print_hex(STDOUT_FILENO, wide(b), 2);
+        print!(rt; "{b:02x}")?;
         i += 1;
     }
-}
-
-fn wide(b: u8) -> u64 {
-    b as u64
+    Ok(())
 }
 
 // The end of a line.
-pub fn end() {
-    io::write_all(STDOUT_FILENO, b"\n");
+pub fn end(rt: &impl Print) -> io::Result<()> {
+    println!(rt; "")
 }

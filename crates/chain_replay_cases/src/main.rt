@@ -7,19 +7,21 @@ ghost use Rattle.std.specs.Prelude.{◌≤◌};
 use chain_replay_calls::Told;
 use filter::{FilterOpt, Option8, Option16};
 use scan_cdp::{Examined, LoadCdp, Part, Progress, Settings, State};
+use std::io;
 
-fn main() {
+fn main(rt: HostRuntime) -> io::Result<()> {
+    let rt = &rt;
     let recording = recording();
     let loads = [true, true, true, false, true, true, true];
     let first = 0;
-    replayed(&recording, &loads[first..0]);
-    replayed(&recording, &loads[first..1]);
-    replayed(&recording, &loads[first..2]);
-    replayed(&recording, &loads[first..3]);
-    replayed(&recording, &loads[first..4]);
-    replayed(&recording, &loads[first..5]);
-    replayed(&recording, &loads[first..6]);
-    replayed(&recording, &loads[first..7]);
+    replayed(rt, &recording, &loads[first..0])?;
+    replayed(rt, &recording, &loads[first..1])?;
+    replayed(rt, &recording, &loads[first..2])?;
+    replayed(rt, &recording, &loads[first..3])?;
+    replayed(rt, &recording, &loads[first..4])?;
+    replayed(rt, &recording, &loads[first..5])?;
+    replayed(rt, &recording, &loads[first..6])?;
+    replayed(rt, &recording, &loads[first..7])
 }
 
 // Packets of links 1, 2 and 1, with 16 bytes, none and 32 bytes of payload, of which 8 are left.
@@ -58,7 +60,7 @@ fn settings() -> Settings {
 
 // The calls: a window that ends in the payload, and a longer one; one behind the byte place; a header of link 2; all that is left; the end;
 // and a call behind it.
-fn replayed(recording: &[u8], loads: &[bool]) {
+fn replayed(rt: &impl Print, recording: &[u8], loads: &[bool]) -> io::Result<()> {
     let firsts = [0, 0, 81, 80, 120, 0, 0];
     let sizes = [79, 80, 216, 64, 216, 216, 216];
     let lasts = [true, false, true, true, true, true, true];
@@ -79,73 +81,75 @@ fn replayed(recording: &[u8], loads: &[bool]) {
         &sizes,
         &lasts,
     );
-    cases_show::text(b"made");
-    cases_show::number(replayed.made as u64);
+    cases_show::text(rt, b"made")?;
+    cases_show::number(rt, replayed.made as u64)?;
     let last = replayed.last;
     let answer = last.told;
     let window = last.window;
     let progress = last.progress;
-    told(recording, window, answer);
-    left(progress);
-    counted(triggers[0], triggers[1], triggers[2]);
+    told(rt, recording, window, answer)?;
+    left(rt, progress)?;
+    counted(rt, triggers[0], triggers[1], triggers[2])?;
     if last.ends {
-        cases_show::text(b", the end");
+        cases_show::text(rt, b", the end")?;
     }
-    cases_show::end();
+    cases_show::end(rt)
 }
 
-fn told(recording: &[u8], window: Part, told: Told) {
+fn told(rt: &impl Print, recording: &[u8], window: Part, told: Told) -> io::Result<()> {
     match told {
-        Told::Nothing => cases_show::text(b" nothing"),
+        Told::Nothing => cases_show::text(rt, b" nothing")?,
         Told::Examination(answer, _) => match answer {
-            Examined::Passed => cases_show::text(b" passed"),
-            Examined::Answered(found) => answered(recording, window, found),
+            Examined::Passed => cases_show::text(rt, b" passed")?,
+            Examined::Answered(found) => answered(rt, recording, window, found)?,
         },
         Told::Load(found, marks) => {
-            answered(recording, window, found);
+            answered(rt, recording, window, found)?;
             if marks.payload_cut {
-                cases_show::text(b" cut");
+                cases_show::text(rt, b" cut")?;
             }
         }
     }
+    Ok(())
 }
 
-fn answered(recording: &[u8], window: Part, found: LoadCdp) {
+fn answered(rt: &impl Print, recording: &[u8], window: Part, found: LoadCdp) -> io::Result<()> {
     match found {
         LoadCdp::Packet(packet) => {
-            cases_show::text(b" packet");
-            cases_show::number(packet.position.0);
-            cases_show::number(packet.own.0);
+            cases_show::text(rt, b" packet")?;
+            cases_show::number(rt, packet.position.0)?;
+            cases_show::number(rt, packet.own.0)?;
             let payload = packet.payload;
-            cases_show::bytes(chain_replay_calls::payload(recording, window, payload));
+            cases_show::bytes(rt, chain_replay_calls::payload(recording, window, payload))?;
         }
         LoadCdp::Want(place, size) => {
-            cases_show::text(b" want");
-            cases_show::number(place.0);
-            cases_show::number(size);
+            cases_show::text(rt, b" want")?;
+            cases_show::number(rt, place.0)?;
+            cases_show::number(rt, size)?;
         }
         LoadCdp::Refused(why) => {
-            cases_show::text(b" refused");
-            cases_show::number(why.number() as u64);
+            cases_show::text(rt, b" refused")?;
+            cases_show::number(rt, why.number() as u64)?;
         }
     }
+    Ok(())
 }
 
-fn left(progress: Progress) {
-    cases_show::text(b", place");
-    cases_show::number(progress.place.0);
-    cases_show::text(b" position");
-    cases_show::number(progress.position.0);
-    cases_show::text(b" counts");
-    cases_show::number(progress.counts.seen as u64);
-    cases_show::number(progress.counts.filtered as u64);
-    cases_show::number(progress.counts.payload as u64);
+fn left(rt: &impl Print, progress: Progress) -> io::Result<()> {
+    cases_show::text(rt, b", place")?;
+    cases_show::number(rt, progress.place.0)?;
+    cases_show::text(rt, b" position")?;
+    cases_show::number(rt, progress.position.0)?;
+    cases_show::text(rt, b" counts")?;
+    cases_show::number(rt, progress.counts.seen as u64)?;
+    cases_show::number(rt, progress.counts.filtered as u64)?;
+    cases_show::number(rt, progress.counts.payload as u64)
 }
 
 // The trigger counts of the bits that the headers have.
-fn counted(orbit: u32, hb: u32, hbr: u32) {
-    cases_show::text(b" triggers");
-    cases_show::number(orbit as u64);
-    cases_show::number(hb as u64);
-    cases_show::number(hbr as u64);
+fn counted(rt: &impl Print, orbit: u32, hb: u32, hbr: u32) -> io::Result<()> {
+    cases_show::text(rt, b" triggers")?;
+    cases_show::number(rt, orbit as u64)?;
+    cases_show::number(rt, hb as u64)?;
+    cases_show::number(rt, hbr as u64)
 }

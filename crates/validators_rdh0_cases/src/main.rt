@@ -3,9 +3,10 @@
 // first settles the header ID.
 #![tactic(auto)]
 
-use libc::STDIN_FILENO;
 use rdh::rdh0::{FeeId, Rdh0};
 use serde_rdh_numbers::join_u8;
+use std::io;
+use std::io::{ErrorKind, Read};
 use validators::{HeaderId, Verdict};
 use validators_rdh0::Rdh0Validator;
 
@@ -22,40 +23,44 @@ fn rdh0_of(word: [u8; 8]) -> Rdh0 {
     }
 }
 
-fn show(verdict: Verdict, text: &[u8]) {
+fn show(rt: &impl Print, verdict: Verdict, text: &[u8]) -> io::Result<()> {
     match verdict {
-        Verdict::Sound => cases_show::text(b"sound"),
+        Verdict::Sound => cases_show::text(rt, b"sound")?,
         Verdict::NotSound(length) => {
             let start = 0;
             if length <= text.len() {
-                cases_show::text(&text[start..length]);
+                cases_show::text(rt, &text[start..length])?;
             }
         }
-        Verdict::TooShort(length) => cases_show::number(length as u64),
+        Verdict::TooShort(length) => cases_show::number(rt, length as u64)?,
     }
-    cases_show::end();
+    cases_show::end(rt)
 }
 
-fn answer(validator: Rdh0Validator, rdh0: Rdh0) -> Rdh0Validator {
+fn answer(rt: &impl Print, validator: Rdh0Validator, rdh0: Rdh0) -> io::Result<Rdh0Validator> {
     let mut text = [0u8; 256];
     let check = validator.sanity_check(rdh0, &mut text);
     let verdict = check.verdict;
-    show(verdict, &text);
-    check.validator
+    show(rt, verdict, &text)?;
+    Ok(check.validator)
 }
 
-fn main() {
+fn main(rt: HostRuntime) -> io::Result<()> {
     let mut validator = Rdh0Validator {
         header_id: HeaderId::NotSettled,
         its: false,
     };
+    let mut input = rt.stdin();
     let mut done: u32 = 0;
     while done < MOST_WORDS {
         let mut word = [0u8; 8];
-        if io::read_full(STDIN_FILENO, &mut word) < 8 {
-            return;
+        match input.read_exact(&mut word) {
+            Ok(()) => {}
+            Err(e) if e.kind() == ErrorKind::UnexpectedEof => return Ok(()),
+            Err(e) => return Err(e),
         }
-        validator = answer(validator, rdh0_of(word));
+        validator = answer(&rt, validator, rdh0_of(word))?;
         done += 1;
     }
+    Ok(())
 }
