@@ -4,8 +4,3 @@ pub mod Scanned
 pub mod FilterThinsClaims
 pub mod LinkThinnedClaims
 -- Why it holds.
-pub mod EndLaws
-pub mod FilterStepLaws
-pub mod FilterThinsLaws
-pub mod FilterPartsLaws
-pub mod LinkThinnedLaws

@@ -3,5 +3,3 @@ pub mod Replays
 -- What is stated.
 pub mod AllCallsClaims
 -- Why it holds.
-pub mod ReplaysLaws
-pub mod AllCallsLaws

@@ -1,4 +1,3 @@
 -- What is defined.
 pub mod OneCall
 -- Why it holds.
-pub mod OneCallLaws

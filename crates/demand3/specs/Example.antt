@@ -21,7 +21,7 @@ use Rattle.stats.specs.Counts.{added}
 use Rattle.stats.specs.Lists.{full, member, places_after, twice, used_after}
 use Rattle.trigger_stats.specs.Counters.{bit_of, count, counted, place_of}
 use Rattle.chain.specs.Calls.{Call, Reply, Window, Windows, along, reply_answer, examines, loads, replies, reply_to}
-use Rattle.chain.specs.CallsFollowLaws.{calls_follow}
+use Rattle.chain.proofs.CallsFollowLaws.{calls_follow}
 use Rattle.chain.specs.Chain.{Kept, chain, chain_of, is_refused}
 use Rattle.chain.specs.CountedHeaders.{seen_of, triggers_of}
 use Rattle.chain.specs.CountedHeadersClaims.{after}
@@ -29,7 +29,7 @@ use Rattle.chain.specs.Following.{entries_of, kept_after, replies_of}
 use Rattle.chain.specs.OwnPositions.{WholeLoad, offsets, whole_loads}
 use Rattle.chain.specs.Walk.{Met, walk, walk_along}
 use Rattle.chain_filter.specs.Scanned.{filter_by_fee, filter_by_link, no_filter, quick}
-use Rattle.demand3.specs.MarkedCasesLaws.{◌then◌}
+use Rattle.demand3.proofs.MarkedCasesLaws.{◌then◌}
 use Rattle.demand3.specs.MarkedCases.{given_at, plain, sample}
 
 -- Two headers without payload, of two FEE ids.

@@ -17,14 +17,14 @@ use Rattle.stats.specs.Lists.{full, member, places_after, twice, used_after}
 use Rattle.trigger_stats.specs.Counters.{bit_of, count, counted, place_of}
 use Rattle.chain.specs.Chain.{chain, chain_of}
 use Rattle.chain_filter.specs.FilterThinsClaims.{EachKindThins, NoneTooSmall}
-use Rattle.chain_filter.specs.FilterThinsLaws.{filter_thins}
+use Rattle.chain_filter.proofs.FilterThinsLaws.{filter_thins}
 use Rattle.chain.specs.Following.{entries_of}
 use Rattle.chain.specs.OwnPositions.{position_of}
 use Rattle.chain.specs.PacketLists.{Packet}
 use Rattle.chain_filter.specs.Scanned.{Ending, filter_by_fee, new_with, no_filter, quick, scanned_in}
 use Rattle.chain.specs.Walk.{walk, walk_along}
 use Rattle.demand3.specs.MarkedCases.{sample}
-use Rattle.demand3.specs.MarkedCasesLaws.{◌then◌}
+use Rattle.demand3.proofs.MarkedCasesLaws.{◌then◌}
 
 -- ---- what is shown of a scan
 
@@ -66,8 +66,8 @@ mixed_thins = filter_thins mixed [] mixed_large
 -- ---- a header that is too small (C8)
 
 -- A header of 64 bytes with another memory size.
-unfoldable pub sized : (header_fee_id memory : ℕ) → List ℕ
-sized header_fee_id memory = take 10 (sample header_fee_id 64 0 0x4813) ++ bytes_of 2 memory ++ drop 12 (sample header_fee_id 64 0 0x4813)
+unfoldable pub sized : (fee_id memory : ℕ) → List ℕ
+sized fee_id memory = take 10 (sample fee_id 64 0 0x4813) ++ bytes_of 2 memory ++ drop 12 (sample fee_id 64 0 0x4813)
 
 -- Alone, with a memory size of 0: without a filter it is refused with 3, at position 0. A filter that does not take it passes it, and the end is
 -- 1, at position 64. A filter that takes it meets 3, too: that does no harm.

@@ -7,7 +7,7 @@ use Rattle.scan_cdp.specs.Loads.{Loaded, is_passed, loaded, no_load_marks, repli
 use Rattle.scan_cdp.specs.Steps.{Entry}
 use Rattle.scan_cdp.specs.declared.Examined.{Examined}
 use Rattle.scan_cdp.specs.declared.Part.{Part}
-use Rattle.scan_laws.specs.RunLaws.{loaded-answers}
+use Rattle.scan_laws.proofs.RunLaws.{loaded-answers}
 use Rattle.doors_scan.specs.Doors.{Left, left_by, loaded_through}
 use Rattle.doors_scan_structs.specs.Plain.{settings_of, state_of}
 use Rattle.doors_scan_structs.specs.PlainLaws.{state_again}

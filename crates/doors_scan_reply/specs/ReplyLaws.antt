@@ -6,7 +6,7 @@ use Rattle.basis.specs.PickLaws.{off}
 use Rattle.basis.specs.Refusals.{Answer, gives, refuses}
 use Rattle.rdh.specs.declared.rdh_cru.RdhCru.{RdhCru}
 use Rattle.serde_rdh.specs.Layout.{InRange, decoded, encoded, encoded_into}
-use Rattle.serde_rdh.specs.LayoutLaws.{decoded-encoded}
+use Rattle.serde_rdh.proofs.LayoutLaws.{decoded-encoded}
 use Rattle.scan_cdp.specs.Answers.{Found, examined_answer, handed, passed, refusal, wants}
 use Rattle.scan_cdp.specs.Loads.{no_load_marks, together}
 use Rattle.scan_cdp.specs.declared.Examined.{Examined}

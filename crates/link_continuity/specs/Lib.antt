@@ -2,9 +2,4 @@ pub mod Link
 pub mod Links
 pub mod Arrays
 pub mod ArraysClaims
-pub mod ArraysLaws
 pub mod ContinuityClaims
-pub mod LinkLaws
-pub mod ApartLaws
-pub mod InOrderLaws
-pub mod Example

@@ -16,7 +16,7 @@ use Rattle.scan_cdp.specs.Loads.{Loaded, is_passed, loaded}
 use Rattle.scan_cdp.specs.declared.Part.{Part}
 use Rattle.scan_cdp.specs.declared.Settings.{Settings}
 use Rattle.scan_cdp.specs.declared.State.{State}
-use Rattle.scan_laws.specs.RunLaws.{loaded-answers}
+use Rattle.scan_laws.proofs.RunLaws.{loaded-answers}
 use Rattle.listing_lines.specs.Lines.{room}
 use Rattle.listing_load.specs.LoadLines.{lines_of, unsound_in, validator_of}
 use Rattle.listing_batch.specs.Batches.{Batched, Stopped, answered, batched, batched_from, unsound_with, full, is_packet, stopped, buffer_too_short}

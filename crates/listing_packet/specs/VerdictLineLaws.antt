@@ -12,7 +12,7 @@ use Rattle.rdh.specs.declared.rdh_cru.RdhCru.{RdhCru}
 use Rattle.serde_rdh.specs.Layout.{InRange}
 use Rattle.text.specs.Written.{overwritten}
 use Rattle.validators.specs.Verdict.{Checks, Judged, verdict_answer, answered, expected_id, settled_by, sound_to, text_of, validator_after}
-use Rattle.validators.specs.VerdictLaws.{suffice}
+use Rattle.validators.proofs.VerdictLaws.{suffice}
 use Rattle.validators.specs.declared.RdhCruSanityValidator.{RdhCruSanityValidator}
 use Rattle.validators.specs.declared.SanityCheck.{SanityCheck}
 use Rattle.validators.specs.declared.Verdict.{Verdict}

@@ -1,4 +1,2 @@
 pub mod ListingText
 pub mod ListingTextClaims
-pub mod ListingTextLaws
-pub mod Example

@@ -4,4 +4,3 @@ pub mod Steps
 pub mod Windows
 pub mod Loads
 pub mod SkipDistanceClaims
-pub mod SkipDistanceLaws

@@ -1,14 +1,5 @@
 pub mod Runs
-pub mod OutcomeLaws
 pub mod Elsewhere
-pub mod RowLaws
-pub mod WindowLaws
-pub mod StepLaws
-pub mod RunLaws
-pub mod LoadTurnLaws
 pub mod LoadReplies
 pub mod LoadRepliesClaims
-pub mod LoadRepliesLaws
 pub mod RefusalRowsClaims
-pub mod RefusalRowsLaws
-pub mod FittingLaws

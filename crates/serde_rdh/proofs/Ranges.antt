@@ -7,7 +7,7 @@ use denote.Laws.{Is}
 use denote.Struct
 use Rattle.rdh.specs.declared.rdh_cru.RdhCru.{RdhCru}
 use Rattle.serde_rdh.specs.Layout.{InRange, span, value}
-use Rattle.serde_rdh.specs.LayoutLaws.{every}
+use Rattle.serde_rdh.proofs.LayoutLaws.{every}
 use Rattle.rdh.specs.contracts.rdh_cru.RdhCru.{the_type}
 
 pub in_range : (h : RdhCru) (vs : List Val) → Is (denote.Struct.Declared.row the_type) h vs → InRange h

@@ -3,3 +3,4 @@ pub mod WriterSlot
 pub mod Loan
 pub mod One
 pub mod Two
+pub mod WriterLaws

@@ -1,9 +1,4 @@
-pub mod TextLengthsLaws
 pub mod Verdict
-pub mod JudgesLaws
-pub mod VerdictLaws
 pub mod Verdicts
 pub mod VerdictsClaims
-pub mod VerdictsLaws
 pub mod VerdictTextsClaims
-pub mod VerdictTextsLaws

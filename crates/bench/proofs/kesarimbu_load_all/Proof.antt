@@ -8,9 +8,9 @@ use Rattle.scan_cdp.specs.Answers.{load_answer}
 use Rattle.scan_cdp.specs.Steps.{with_lent}
 use Rattle.scan_cdp.specs.declared.LoadCdp.{LoadCdp}
 use Rattle.scan_laws.specs.Runs.{is_want}
-use Rattle.listing_window.specs.HeldLaws.{shown_within}
+use Rattle.listing_window.proofs.HeldLaws.{shown_within}
 use Rattle.bench.specs.Counted.{begun, is_packet, left_from, most, packets_from}
-use Rattle.bench.specs.CountedLaws.{Turn, counts_all, no_want, none_left, none_more, one_more, starts, starts_within}
+use Rattle.bench.proofs.CountedLaws.{Turn, counts_all, no_want, none_left, none_more, one_more, starts, starts_within}
 use borrow.Author.Rules.{rules}
 use Rattle.bench.proofs.kesarimbu_load_all.Statement.{statement}
 use Rattle.bench.proofs.kesarimbu_load_all.Tie as tie

@@ -6,7 +6,7 @@ use borrow.Author.Rules.{rules}
 use lib.ListN.{length}
 use Rattle.chain_replay_calls.specs.OneCall.{keeps, stand_of}
 use Rattle.chain_replay.specs.Replays.{calls_of}
-use Rattle.chain_replay.specs.ReplaysLaws.{Turn, all_made, below_all, call_goes_on, call-stops, calls_from, follow, no_more, no_turn}
+use Rattle.chain_replay.proofs.ReplaysLaws.{Turn, all_made, below_all, call_goes_on, call-stops, calls_from, follow, no_more, no_turn}
 use Rattle.chain_replay.proofs.replay.Statement.{statement}
 use Rattle.chain_replay.proofs.replay.Tie as tie
 

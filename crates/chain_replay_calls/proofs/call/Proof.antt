@@ -2,7 +2,7 @@
 use mathlib.Core.Path.{ap, sym, ◌∙◌}
 use Rattle.chain.specs.Calls.{Window, reply_to}
 use Rattle.chain_replay_calls.specs.OneCall.{call_on, ends_told, keeps, stand_by, told_on}
-use Rattle.chain_replay_calls.specs.OneCallLaws.{lent_asked, stands_told}
+use Rattle.chain_replay_calls.proofs.OneCallLaws.{lent_asked, stands_told}
 use borrow.Author.Rules.{rules}
 use Rattle.chain_replay_calls.proofs.call.Statement.{statement}
 use Rattle.chain_replay_calls.proofs.call.Tie as tie

@@ -5,7 +5,7 @@ use lib.Dec.{eqb}
 use Rattle.scan_cdp.specs.Answers.{load_answer}
 use Rattle.scan_cdp.specs.declared.LoadCdp.{LoadCdp}
 use Rattle.chain.specs.Calls.{ends_by}
-use Rattle.chain.specs.CallsLaws.{ends_but_6}
+use Rattle.chain.proofs.CallsLaws.{ends_but_6}
 use borrow.Author.Rules.{rules}
 use Rattle.chain_replay_calls.proofs.ends_load.Statement.{statement}
 use Rattle.chain_replay_calls.proofs.ends_load.Tie as tie

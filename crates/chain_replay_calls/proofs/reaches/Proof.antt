@@ -1,6 +1,6 @@
 -- The sum is compared as a difference.
 use native.Mathlib.Omega.{arith}
-use Rattle.chain_replay_calls.specs.OneCallLaws.{last_all, last_rest}
+use Rattle.chain_replay_calls.proofs.OneCallLaws.{last_all, last_rest}
 use borrow.Author.Rules.{rules}
 use Rattle.chain_replay_calls.proofs.reaches.Statement.{statement}
 use Rattle.chain_replay_calls.proofs.reaches.Tie as tie

@@ -4,7 +4,7 @@ use mathlib.Core.Path.{ap, sym, ◌∙◌}
 use lib.ListN.{length}
 use Rattle.scan_cdp.specs.Steps.{with_lent}
 use Rattle.scan_cdp.specs.Windows.{outside}
-use Rattle.scan_laws.specs.WindowLaws.{refused_6}
+use Rattle.scan_laws.proofs.WindowLaws.{refused_6}
 use Rattle.scan_replies.specs.ExaminationsLaws.{nothing_changed}
 use Rattle.scan_window.specs.UnusableLaws.{once_examined, twice-unusable}
 use borrow.Author.Rules.{rules}

@@ -10,7 +10,7 @@ use Rattle.scan_cdp.specs.Loads.{is_passed, loaded, loaded_from}
 use Rattle.scan_cdp.specs.Steps.{with_lent}
 use Rattle.scan_cdp.specs.declared.Examined.{Examined}
 use Rattle.scan_cdp.specs.declared.LoadMarks.{LoadMarks}
-use Rattle.scan_laws.specs.LoadTurnLaws.{LoadTurn, load_begins, load_ends, load_fee_ids, load_goes_on, load_passes, load_refused, not_passed}
+use Rattle.scan_laws.proofs.LoadTurnLaws.{LoadTurn, load_begins, load_ends, load_fee_ids, load_goes_on, load_passes, load_refused, not_passed}
 use Rattle.scan_window.specs.UnusableLaws.{once_examined, twice-unusable}
 use borrow.Author.Rules.{rules}
 use Rattle.input_scanner.proofs.load_cdp.Statement.{statement}

@@ -1,5 +1,5 @@
 -- What is held then stands in the buffer.
-use Rattle.listing_window.specs.HeldLaws.{shown_within}
+use Rattle.listing_window.proofs.HeldLaws.{shown_within}
 use borrow.Author.Rules.{rules}
 use Rattle.listing.proofs.read_on.Statement.{statement}
 use Rattle.listing.proofs.read_on.Tie as tie

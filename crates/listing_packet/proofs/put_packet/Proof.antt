@@ -4,7 +4,7 @@ use Rattle.listing_packet.specs.Packets.{packet_lines}
 use Rattle.listing_packet.specs.PacketLaws.{short_packet}
 use Rattle.listing_packet.specs.VerdictLineLaws.{text_fits}
 use Rattle.serde_rdh.proofs.Ranges.{in_range}
-use Rattle.rdh_row.specs.RowLaws.{longest_row}
+use Rattle.rdh_row.proofs.RowLaws.{longest_row}
 use Rattle.listing_packet.proofs.Owned.{held_to}
 use borrow.Author.Rules.{rules}
 use Rattle.listing_packet.proofs.put_packet.Statement.{statement}

@@ -1,6 +1,6 @@
 -- The bytes from the place on move to the front; the input is read up to the place, and then behind what is held.
 use Rattle.std.proofs.Common.{ap, ◌∙◌, arith, length}
-use Rattle.listing_window.specs.HeldLaws.{all_read, held_none, held_within, reached}
+use Rattle.listing_window.proofs.HeldLaws.{all_read, held_none, held_within, reached}
 use Rattle.listing_window.specs.Held.{held_from, slid}
 use Rattle.listing_window.specs.declared.Held.{Held}
 use Rattle.listing_window.proofs.refill.Goals as goal

@@ -2,7 +2,7 @@
 use Rattle.std.proofs.Common.{◌≡◌, ap, ◌∙◌, arith, ◌-◌, ◌+◌, min, ℕ, List, drop, set, get_or}
 use Rattle.std.proofs.Math.Seq.{paste}
 use Rattle.listing_window.specs.Held.{distance, held_from, held_in, slid}
-use Rattle.listing_window.specs.HeldLaws.{one_moves}
+use Rattle.listing_window.proofs.HeldLaws.{one_moves}
 use Rattle.listing_window.proofs.slide.Goals as goal
 
 pub loop-i-preserved : goal.loop-i-preserved

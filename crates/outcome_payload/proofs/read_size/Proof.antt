@@ -10,7 +10,7 @@ use Rattle.rdh.specs.declared.rdh_cru.RdhCru.{RdhCru}
 use Rattle.scan_cdp.specs.Outcomes.{payload_size}
 use Rattle.scan_cdp.specs.Steps.{cut, payload_of}
 use Rattle.scan_cdp.specs.declared.Outcome.TheVariants.{HandedOut}
-use Rattle.scan_laws.specs.WindowLaws.{payload-length}
+use Rattle.scan_laws.proofs.WindowLaws.{payload-length}
 use borrow.Author.Rules.{rules}
 use Rattle.outcome_payload.proofs.read_size.Statement.{statement}
 use Rattle.outcome_payload.proofs.read_size.Tie as tie

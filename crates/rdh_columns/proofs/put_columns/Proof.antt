@@ -40,7 +40,7 @@ use Rattle.text.specs.Put.{Put}
 use Rattle.text.specs.PutLaws.{same_length}
 use Rattle.text_writer.specs.declared.TextWriter.{TextWriter}
 use Rattle.text_writer.specs.Writer.{begun, extended}
-use Rattle.text_writer.specs.WriterLaws.{Wrote, begins, goes_on}
+use Rattle.text_writer.proofs.WriterLaws.{Wrote, begins, goes_on}
 use Rattle.text_writer.proofs.Calls.{New, Count, WritesOne, WritesTwo, token, typed, calls_new, calls_one, calls_two, calls_count}
 use Rattle.text_writer.proofs.TextWriter.new.Symbol as new-def
 use Rattle.text_writer.proofs.TextWriter.new.Met as new-thm

@@ -6,7 +6,7 @@ use lib.ListN.{length}
 use Rattle.text.specs.WrittenLaws.{by_measure, holds_longest}
 use Rattle.serde_rdh.proofs.Ranges.{in_range}
 use Rattle.rdh_row.specs.Row.{row_text}
-use Rattle.rdh_row.specs.RowLaws.{longest_row}
+use Rattle.rdh_row.proofs.RowLaws.{longest_row}
 use Rattle.rdh_row.proofs.needed.Statement.{statement}
 use Rattle.rdh_row.proofs.needed.Tie as tie
 

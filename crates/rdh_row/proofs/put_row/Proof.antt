@@ -2,7 +2,7 @@
 use mathlib.Core.Path.{ap, ◌∙◌}
 use Rattle.text.specs.PutLaws.{respelled}
 use Rattle.rdh_columns.specs.Columns.{columns_text}
-use Rattle.rdh_row.specs.RowLaws.{columns_row}
+use Rattle.rdh_row.proofs.RowLaws.{columns_row}
 use borrow.Author.Rules.{rules}
 use Rattle.rdh_row.proofs.put_row.Statement.{statement}
 use Rattle.rdh_row.proofs.put_row.Tie as tie

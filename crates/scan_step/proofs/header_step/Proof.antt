@@ -10,7 +10,7 @@ use Rattle.scan_cdp.specs.declared.Outcome.{Outcome}
 use Rattle.scan_cdp.specs.Windows.{wanting}
 use Rattle.scan_step.specs.Headers.{Stepped}
 use Rattle.scan_replies.specs.ExaminationsLaws.{nothing_changed}
-use Rattle.scan_step.specs.HeadersLaws.{header_entered, header-wanted}
+use Rattle.scan_step.proofs.HeadersLaws.{header_entered, header-wanted}
 use Rattle.scan_step.proofs.header_step.Statement.{statement}
 use Rattle.scan_step.proofs.header_step.Tie as tie
 

@@ -4,7 +4,7 @@ use Rattle.scan_cdp.specs.Answers.{examined_answer}
 use Rattle.scan_cdp.specs.Steps.{answer_in, initial_of, marks_of, payload_of, progress_after, start_of, tallied}
 use Rattle.scan_cdp.specs.Windows.{part_at}
 use Rattle.scan_cdp.specs.declared.Outcome.TheVariants.{HandedOut}
-use Rattle.scan_laws.specs.WindowLaws.{placed_answer}
+use Rattle.scan_laws.proofs.WindowLaws.{placed_answer}
 use Rattle.scan_step.proofs.stepped.Statement.{statement}
 use Rattle.scan_step.proofs.stepped.Tie as tie
 

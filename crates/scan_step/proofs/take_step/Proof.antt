@@ -3,13 +3,13 @@ use Rattle.std.proofs.Common.{◌≡◌, ℕ, ◌-◌, Bool, ◌||◌, List, [],
 use mathlib.Core.Bool.{or-true}
 use Rattle.scan_cdp.specs.Windows.{outside}
 use Rattle.serde_rdh.specs.Layout.{decode}
-use Rattle.serde_rdh.specs.LayoutLaws.{decode-given}
+use Rattle.serde_rdh.proofs.LayoutLaws.{decode-given}
 use Rattle.serde_rdh.specs.Refusals.{decode_answer}
 use Rattle.serde_rdh.specs.declared.FromBuf.{FromBuf}
 use Rattle.scan_cdp.specs.Steps.{numbers_unusable}
 use Rattle.scan_replies.specs.ExaminationsLaws.{nothing_changed}
 use Rattle.scan_window.specs.UnusableLaws.{inside}
-use Rattle.scan_step.specs.HeadersLaws.{stepped_decoded, stepped_lacking, stepped_refused, within}
+use Rattle.scan_step.proofs.HeadersLaws.{stepped_decoded, stepped_lacking, stepped_refused, within}
 use Rattle.scan_step.proofs.take_step.Statement.{statement}
 use Rattle.scan_step.proofs.take_step.Tie as tie
 

@@ -1,5 +1,5 @@
 -- What the window has of the part is taken.
-use Rattle.scan_laws.specs.WindowLaws.{bytes_within}
+use Rattle.scan_laws.proofs.WindowLaws.{bytes_within}
 use Rattle.scan_window.proofs.payload.Goals as goal
 
 pub returns : goal.returns

@@ -3,7 +3,7 @@ use mathlib.Core.Path.{◌≡◌, sym, ap, ◌∙◌}
 use mathlib.Core.Bool.{true}
 use mathlib.Core.Logic.{◌↔◌}
 use Rattle.serde_rdh.specs.Layout.{encoded}
-use Rattle.serde_rdh.specs.LayoutLaws.{same_bytes}
+use Rattle.serde_rdh.proofs.LayoutLaws.{same_bytes}
 use Rattle.serde_rdh.proofs.eq.Goals as goal
 
 pub returns : goal.returns

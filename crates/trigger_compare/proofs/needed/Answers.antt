@@ -5,7 +5,7 @@ use lib.ListN.{length}
 use Rattle.text.specs.WrittenLaws.{by_measure, holds_longest}
 use Rattle.trigger_stats.proofs.Ranges.{in_range}
 use Rattle.trigger_texts.specs.Mismatches.{mismatch_text}
-use Rattle.trigger_texts.specs.MismatchesLaws.{longest_comparison}
+use Rattle.trigger_texts.proofs.MismatchesLaws.{longest_comparison}
 use Rattle.trigger_compare.proofs.needed.Goals as goal
 
 longest : (c : goal.Start) → length (mismatch_text c.args.counts c.args.expected) ≤ 1058

@@ -9,12 +9,12 @@ use Rattle.text.specs.Ascii.{ascii}
 use Rattle.text.specs.Put.{Put}
 use Rattle.text.specs.PutLaws.{put_nothing, respelled}
 use Rattle.trigger_stats.specs.Counters.{Counter, count, counter_at, counters}
-use Rattle.trigger_stats.specs.CountersLaws.{count_at}
+use Rattle.trigger_stats.proofs.CountersLaws.{count_at}
 use Rattle.trigger_texts.specs.CounterOrder.{texts_in_order}
-use Rattle.trigger_texts.specs.CounterOrderLaws.{next_one}
+use Rattle.trigger_texts.proofs.CounterOrderLaws.{next_one}
 use Rattle.trigger_texts.specs.FieldMismatches.{counter_mismatch, mismatch_if_any}
 use Rattle.trigger_texts.specs.Mismatches.{name}
-use Rattle.trigger_texts.specs.MismatchesLaws.{by_counter}
+use Rattle.trigger_texts.proofs.MismatchesLaws.{by_counter}
 use Rattle.trigger_compare.proofs.put_mismatches.Goals as goal
 
 -- what is put with a counter's name and its two counts is what is put for that counter

@@ -11,7 +11,7 @@ use Rattle.text_numbers.specs.Numerals.{left}
 use Rattle.text.specs.PutLaws.{respelled}
 use Rattle.trigger_texts.specs.CounterOrder.{texts_in_order}
 use Rattle.trigger_texts.specs.Mismatches.{name}
-use Rattle.trigger_texts.specs.TableLaws.{name-at, name_length, name_row, short_name}
+use Rattle.trigger_texts.proofs.TableLaws.{name-at, name_length, name_row, short_name}
 use Rattle.trigger_compare.proofs.put_name.Goals as goal
 
 -- The part of a table that the code reads for counter `k`.

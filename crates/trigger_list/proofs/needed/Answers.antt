@@ -5,7 +5,7 @@ use lib.ListN.{length}
 use Rattle.text.specs.WrittenLaws.{by_measure, holds_longest}
 use Rattle.trigger_stats.proofs.Ranges.{in_range}
 use Rattle.trigger_texts.specs.TriggerList.{list_text}
-use Rattle.trigger_texts.specs.TriggerListLaws.{longest_list}
+use Rattle.trigger_texts.proofs.TriggerListLaws.{longest_list}
 use Rattle.trigger_list.proofs.needed.Goals as goal
 
 longest : (c : goal.Start) → length (list_text c.args.counts) ≤ 480

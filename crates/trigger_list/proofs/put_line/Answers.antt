@@ -2,7 +2,7 @@
 use Rattle.text.specs.PutLaws.{and_then, respelled}
 use Rattle.trigger_texts.specs.CounterOrder.{texts_in_order}
 use Rattle.trigger_texts.specs.TriggerList.{label, line_of}
-use Rattle.trigger_texts.specs.TableLaws.{label_at}
+use Rattle.trigger_texts.proofs.TableLaws.{label_at}
 use Rattle.trigger_list.proofs.put_line.Goals as goal
 
 pub returns : goal.returns

@@ -7,9 +7,9 @@ use lib.Seq.{take_all}
 use Rattle.text.specs.Ascii.{ascii}
 use Rattle.text.specs.PutLaws.{and_then, put_nothing, respelled}
 use Rattle.trigger_stats.specs.Counters.{counter_at, counters}
-use Rattle.trigger_stats.specs.CountersLaws.{count_at}
+use Rattle.trigger_stats.proofs.CountersLaws.{count_at}
 use Rattle.trigger_texts.specs.CounterOrder.{texts_in_order}
-use Rattle.trigger_texts.specs.CounterOrderLaws.{next_one}
+use Rattle.trigger_texts.proofs.CounterOrderLaws.{next_one}
 use Rattle.trigger_texts.specs.TriggerList.{label, line, line_of, list_text}
 use Rattle.trigger_list.proofs.put_list.Goals as goal
 

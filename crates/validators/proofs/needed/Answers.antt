@@ -2,7 +2,7 @@
 use native.Mathlib.Omega.{arith}
 use Rattle.text.specs.WrittenLaws.{by_measure, holds_longest}
 use Rattle.serde_rdh.proofs.Ranges.{in_range}
-use Rattle.validators.specs.TextLengthsLaws.{longest_text}
+use Rattle.validators.proofs.TextLengthsLaws.{longest_text}
 use Rattle.validators.proofs.needed.Goals as goal
 
 pub returns-then-room-ge-LONGEST_TEXT : goal.returns-then-room-ge-LONGEST_TEXT

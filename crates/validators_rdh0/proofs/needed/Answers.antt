@@ -2,7 +2,7 @@
 use Rattle.std.proofs.Common.{◌≤◌, length, arith}
 use Rattle.text.specs.PutLaws.{measured}
 use Rattle.sanity.specs.Tests.{rdh0_tests, section}
-use Rattle.validators.specs.TextLengthsLaws.{rdh0_section}
+use Rattle.validators.proofs.TextLengthsLaws.{rdh0_section}
 use Rattle.validators_rdh0.proofs.needed.Goals as goal
 
 pub returns : goal.returns

@@ -4,7 +4,7 @@ use mathlib.Core.Path.{ap, ◌∙◌}
 use native.Mathlib.Omega.{arith}
 use lib.ListN.{length}
 use Rattle.text.specs.PutLaws.{respelled}
-use Rattle.validators.specs.VerdictLaws.{checks_sound, checks_too_short, checks_unsound, judged, named}
+use Rattle.validators.proofs.VerdictLaws.{checks_sound, checks_too_short, checks_unsound, judged, named}
 use Rattle.validators.proofs.RdhCruSanityValidator.sanity_check.Goals as goal
 
 pub returns-then-not-fails : goal.returns-then-not-fails

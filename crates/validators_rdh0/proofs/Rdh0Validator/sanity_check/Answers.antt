@@ -4,7 +4,7 @@ use mathlib.Core.Path.{ap, ◌∙◌}
 use native.Mathlib.Omega.{arith}
 use lib.ListN.{length}
 use Rattle.text.specs.PutLaws.{respelled}
-use Rattle.validators.specs.JudgesLaws.{judges_sound, judges_too_short, judges_unsound}
+use Rattle.validators.proofs.JudgesLaws.{judges_sound, judges_too_short, judges_unsound}
 use Rattle.validators_rdh0.specs.Rdh0VerdictLaws.{judged, named, sound_text}
 use Rattle.validators_rdh0.proofs.Rdh0Validator.sanity_check.Goals as goal
 

@@ -1,0 +1,5 @@
+pub mod EndLaws
+pub mod FilterPartsLaws
+pub mod FilterStepLaws
+pub mod FilterThinsLaws
+pub mod LinkThinnedLaws

@@ -1,0 +1,2 @@
+pub mod AllCallsLaws
+pub mod ReplaysLaws

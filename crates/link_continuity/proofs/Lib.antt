@@ -1,0 +1,5 @@
+pub mod ApartLaws
+pub mod ArraysLaws
+pub mod Example
+pub mod InOrderLaws
+pub mod LinkLaws

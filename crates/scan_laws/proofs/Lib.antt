@@ -1,0 +1,9 @@
+pub mod FittingLaws
+pub mod LoadRepliesLaws
+pub mod LoadTurnLaws
+pub mod OutcomeLaws
+pub mod RefusalRowsLaws
+pub mod RowLaws
+pub mod RunLaws
+pub mod StepLaws
+pub mod WindowLaws

@@ -1,0 +1,4 @@
+pub mod CounterOrderLaws
+pub mod MismatchesLaws
+pub mod TableLaws
+pub mod TriggerListLaws
