@@ -25,7 +25,7 @@ window_at recording a =
     lent_as bytes a.first (a.last && leb (length recording) (a.first + length bytes))
 
 abbrev pub call_on : Bool → Window → Call
-call_on is_load_call w = pick is_load_call (loads w) (examines w)
+call_on is_load w = pick is_load (loads w) (examines w)
 
 abbrev pub call_at : List ℕ → Asked → Call
 call_at recording a = call_on a.load (window_at recording a)

@@ -10,9 +10,9 @@ use Rattle.scan_cdp.specs.declared.Settings.{Settings}
 use Rattle.text.specs.Ascii.{ascii}
 
 -- The header of the listing's example (P6), with a FEE id, an offset, a bunch counter and a trigger type of the case's own.
-unfoldable pub sample : (header_fee_id offset bc trigger : ℕ) → List ℕ
-sample header_fee_id offset bc trigger =
-    7 ∷ 64 ∷ bytes_of 2 header_fee_id ++ (0 ∷ 32 ∷ 0 ∷ 0 ∷ [])
+unfoldable pub sample : (fee_id offset bc trigger : ℕ) → List ℕ
+sample fee_id offset bc trigger =
+    7 ∷ 64 ∷ bytes_of 2 fee_id ++ (0 ∷ 32 ∷ 0 ∷ 0 ∷ [])
     ++ bytes_of 2 offset ++ bytes_of 2 64 ++ (2 ∷ 0 ∷ 1 ∷ 0 ∷ [])
     ++ bytes_of 4 bc ++ bytes_of 4 16
     ++ (2 ∷ replicate 7 0)
@@ -32,19 +32,19 @@ pub data Case : Type 0 where
   -- a header with this offset at the start of a recording: what the scan answers
   offset : (n : ℕ) → Answer (Found (List ℕ)) → Case
   -- a header with this FEE id, bunch counter and trigger type: whether it is sound, on a validator that has settled nothing, without ITS
-  soundness : (header_fee_id bc trigger : ℕ) → Bool → Case
+  soundness : (fee_id bc trigger : ℕ) → Bool → Case
   -- a FEE id: its layer and stave
   fee-id : (n layer stave : ℕ) → Case
   -- a stave filter and a FEE id: whether it is taken
-  stave_filter : (setting header_fee_id : ℕ) → Bool → Case
+  stave_filter : (setting fee_id : ℕ) → Bool → Case
   -- a stave name: what its call answers
   name : (text : List ℕ) → Answer ℕ → Case
 
 -- A packet with no payload, whose load started at a position, with its own position.
-abbrev pub given_at : (position own header_fee_id n : ℕ) → Answer (Found (List ℕ))
-given_at position own header_fee_id n =
+abbrev pub given_at : (position own fee_id n : ℕ) → Answer (Found (List ℕ))
+given_at position own fee_id n =
     gives (handed (record {
-      header = decoded (sample header_fee_id n 0 0x4813);
+      header = decoded (sample fee_id n 0 0x4813);
       payload = [];
       position = record { 0 = position };
       own = record { 0 = own };

@@ -13,10 +13,10 @@ use Rattle.demand3.specs.MarkedCases.{Case, fee-id, name, offset, plain, sample,
 -- The definitions answer an input with that reply.
 abbrev pub Agrees : Case → Type 0
 Agrees (offset n reply) = (step_in (sample 0x502A n 0 0x4813) plain new_state (0 ∷ [])).answer ≡ reply
-Agrees (soundness header_fee_id bc trigger reply) =
-    sound_to (record { header_id = NotSettled; its = false }) (decoded (sample header_fee_id 64 bc trigger)) ≡ reply
+Agrees (soundness fee_id bc trigger reply) =
+    sound_to (record { header_id = NotSettled; its = false }) (decoded (sample fee_id 64 bc trigger)) ≡ reply
 Agrees (fee-id n layer stave) = (layer_of n ≡ layer) × (stave_of n ≡ stave)
-Agrees (stave_filter setting header_fee_id reply) = (link : ℕ) → matches (ItsLayerStave setting) link header_fee_id ≡ reply
+Agrees (stave_filter setting fee_id reply) = (link : ℕ) → matches (ItsLayerStave setting) link fee_id ≡ reply
 Agrees (name text reply) = named_fee text ≡ reply
 
 abbrev pub AllAgree : List Case → Type 0
