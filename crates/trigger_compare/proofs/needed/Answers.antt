@@ -8,11 +8,14 @@ use Rattle.trigger_texts.specs.Mismatches.{mismatch_text}
 use Rattle.trigger_texts.proofs.MismatchesLaws.{longest_comparison}
 use Rattle.trigger_compare.proofs.needed.Goals as goal
 
-longest : (c : goal.Start) → length (mismatch_text c.args.counts c.args.expected) ≤ 1058
-longest c = longest_comparison _ _ (in_range _ _ c.well_formed.0) (in_range _ _ c.well_formed.1.0)
-
 pub returns-then-room-ge-LONGEST_COMPARISON : goal.returns-then-room-ge-LONGEST_COMPARISON
-returns-then-room-ge-LONGEST_COMPARISON c = holds_longest (longest c) c.if-room-ge-LONGEST_COMPARISON.true
+returns-then-room-ge-LONGEST_COMPARISON c =
+    let longest : length (mismatch_text c.args.counts c.args.expected) ≤ 1058 =
+    longest_comparison _ _ (in_range _ _ c.well_formed.0) (in_range _ _ c.well_formed.1.0) in
+    holds_longest longest c.if-room-ge-LONGEST_COMPARISON.true
 
 pub returns : goal.returns
-returns c = by_measure c.args.room c.put_mismatches.ensures (omega (arith, longest c))
+returns c =
+    let longest : length (mismatch_text c.args.counts c.args.expected) ≤ 1058 =
+    longest_comparison _ _ (in_range _ _ c.well_formed.0) (in_range _ _ c.well_formed.1.0) in
+    by_measure c.args.room c.put_mismatches.ensures (omega (arith, longest))

@@ -33,16 +33,16 @@ pub loop-field-preserved : goal.loop-field-preserved
 loop-field-preserved c =
     let args = c.args in
     let k = c.loop-field.field in
-    let others = sym (count_at k (omega arith) args.t2) in
-    let own = sym (count_at k (omega arith) args.t1) in (
+    let others = sym (count_at k (omega arith) args.expected) in
+    let own = sym (count_at k (omega arith) args.counts) in (
       omega arith,
-      next_one (counter_mismatch args.t1 args.t2) k (omega arith) c.loop-field.invariant.1
-          (of-counter args.t1 args.t2 (counter_at k) c.put_mismatch-next.ensures refl others own),
+      next_one (counter_mismatch args.counts args.expected) k (omega arith) c.loop-field.invariant.1
+          (of-counter args.counts args.expected (counter_at k) c.put_mismatch-next.ensures refl others own),
     )
 
 pub returns : goal.returns
 returns c =
     let args = c.args in
     let all = take_all c.loop-field.field counters (omega arith) in
-    respelled (ap (texts_in_order (counter_mismatch args.t1 args.t2)) all ∙ sym (by_counter args.t1 args.t2))
+    respelled (ap (texts_in_order (counter_mismatch args.counts args.expected)) all ∙ sym (by_counter args.counts args.expected))
     c.loop-field.invariant.1

@@ -20,7 +20,7 @@ loop-k-init c = (omega arith, put_nothing _ _ (omega arith) (omega arith))
 pub loop-k-preserved : goal.loop-k-preserved
 unfolding line
 loop-k-preserved c =
-    let counts = c.args.t1 in
+    let counts = c.args.counts in
     let k = c.loop-k.k in (
       omega arith,
       next_one (line counts) k (omega arith) c.loop-k.invariant.1
@@ -32,5 +32,5 @@ pub returns : goal.returns
 unfolding list_text
 returns c =
     and_then c.put_bytes-next.ensures
-    (respelled (ap (λ ks. texts_in_order (line c.args.t1) ks) (take_all c.loop-k.k counters c.loop-k-test.false))
+    (respelled (ap (λ ks. texts_in_order (line c.args.counts) ks) (take_all c.loop-k.k counters c.loop-k-test.false))
     c.loop-k.invariant.1)
