@@ -30,7 +30,7 @@ use Rattle.scan_cdp.specs.declared.Part.{Part}
 use Rattle.scan_cdp.specs.declared.Position.{Position}
 use Rattle.scan_cdp.specs.declared.Settings.{Settings}
 use Rattle.scan_cdp.specs.declared.State.{State}
-use Rattle.scan_laws.specs.RefusalRowsClaims.{Left, OnlyRows, Row, Row1, Row2, Row3, Row4, Row6, bad, behind_header, header, header_marks, in_table, looked, lacks_place, rest, short, when1, when6}
+use Rattle.scan_laws.specs.RefusalRowsClaims.{Left, OnlyRows, Row, Row1, Row2, Row3, Row4, Row6, bad, behind_header, header, header_marks, in_table, looked, lacks_place, short, when1, when6}
 use Rattle.scan_laws.proofs.RowLaws.{cut_tells, header-number}
 use Rattle.scan_laws.specs.Runs.{is_refusal}
 use Rattle.scan_laws.proofs.StepLaws.{Admitted, entry_answers_lem, entry_cases, examined_cases, shown_to}

@@ -9,9 +9,7 @@ use lib.Signed.{mag}
 use mir.Syntax.{w32}
 use mir.Val.{SFits, to_z}
 use mir.ValLaws.{to_z-of_z, to_z_pos}
-use borrow.Author.Rules.{rules}
-use Rattle.outcome_effects.proofs.skip_distance.Statement.{statement}
-use Rattle.outcome_effects.proofs.skip_distance.Tie as tie
+use Rattle.outcome_effects.proofs.skip_distance.Goals as goal
 
 -- the machine's difference of what it reads back is the difference of the numbers, and small
 distance : (n : ℕ) → n < 2 ^ 16 → (to_z w32 n -ℤ pos 64 ≡ sub_ℕ n 64) × SFits w32 (sub_ℕ n 64)
@@ -21,17 +19,8 @@ distance n below = (ap (λ (z : ℤ). z -ℤ pos 64) (to_z_pos w32 n (omega (ari
     small true e = rw e (omega arith)
     small false e = rw e (omega (arith, below))
 
-cast-result : tie.Need-overflow-cast-result
-cast-result c = search rules
+pub overflow_sub-result : goal.overflow_sub-result
+overflow_sub-result c = let (e, small) = distance c.args.offset c.ranges.offset.fits in subst (λ (z : ℤ). SFits w32 z) (sym e) small
 
-cast-result-2 : tie.Need-overflow-cast-result-2
-cast-result-2 c = search rules
-
-sub-result : tie.Need-overflow-sub-result
-sub-result c = let (e, small) = distance c.args.offset c.ranges.offset.fits in subst (λ (z : ℤ). SFits w32 z) (sym e) small
-
-returns : tie.Need-returns
-returns c = to_z-of_z w32 _ (sub-result c) ∙ (distance c.args.offset c.ranges.offset.fits).0
-
-pub skip-distance-spec : {M : Type 1} → statement M
-skip-distance-spec = tie.close (tie.spec cast-result cast-result-2 sub-result returns)
+pub returns : goal.returns
+returns c = to_z-of_z w32 _ (overflow_sub-result c) ∙ (distance c.args.offset c.ranges.offset.fits).0
