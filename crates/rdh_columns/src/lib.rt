@@ -52,6 +52,14 @@ pub fn columns_of(h: RdhCru) -> Columns
 pub fn put_columns(out: &mut [u8], at: usize, c: Columns) -> usize
     ensures { Put out.old at (columns_text c) out.new result }
 {
+    write_columns(out, at, c).count()
+}
+
+// The writer that holds the buffer once the columns are written behind the first `at` bytes.
+fn write_columns<'a>(out: &'a mut [u8], at: usize, c: Columns) -> TextWriter<'a>
+    ensures same_reference { result.buf.ghost_name ≡ out.entry.ghost_name }
+    ensures put { Put out.entry.now at (columns_text c) result.buf.now result.count }
+{
     TextWriter::new(out, at)
         .write_decimal_left(c.header_id, 6)
         .write_decimal_left(c.header_size, 7)
@@ -69,5 +77,4 @@ pub fn put_columns(out: &mut [u8], at: usize, c: Columns) -> usize
         .write_byte(b' ')
         .write_byte(b' ')
         .write_hex(c.detector_field)
-        .count()
 }

@@ -1,0 +1,7 @@
+-- Each value is that of the header.
+use Rattle.rdh_columns.specs.Columns.{columns_of}
+use Rattle.rdh_columns.proofs.columns_of.Goals as goal
+
+pub returns : goal.returns
+unfolding columns_of
+returns c = cc
