@@ -4,7 +4,7 @@ use Rattle.std.proofs.Common.{◌≡◌, ℕ, ◌<◌, ◌^◌, List, [], ◌∷
 use Rattle.text_numbers.specs.Numerals.{decimal, hex, left}
 use Rattle.text_writer.specs.declared.TextWriter.{TextWriter}
 use Rattle.text_writer.specs.Writer.{begun, extended}
-use Rattle.text_writer.specs.WriterLaws.{Wrote, begins, goes_on}
+use Rattle.text_writer.proofs.WriterLaws.{Wrote, begins, goes_on}
 use Rattle.rdh_columns.specs.declared.Columns.{Columns}
 use Rattle.rdh_columns.specs.Columns.{columns_text}
 use Rattle.rdh_columns.proofs.write_columns.Goals as goal
