@@ -8,6 +8,36 @@ ghost use Rattle.listing.specs.Turns.{HeldIn, RoomIn};
 
 use listing_window::{Held, Refilled};
 use scan_cdp::{BytePlace, LoadCdp, State};
+use std::fmt::InlineText;
+use std::io;
+use std::io::{ErrorKind, Read, Seek, SeekFrom};
+use std::rt::Stdin;
+
+// Standard input, which is read and never sought; and the error of the read that failed, to say it.
+#[derive(Drop)]
+struct StandardInput {
+    stdin: Stdin,
+    failed: Option<io::Error>,
+}
+
+impl Read for StandardInput {
+    fn read(&mut self, buf: &mut [u8]) -> io::Result<usize> {
+        match self.stdin.read(buf) {
+            Ok(n) => Ok(n),
+            Err(e) => {
+                let kind = e.kind();
+                self.failed = Some(e);
+                Err(io::Error::from(kind))
+            }
+        }
+    }
+}
+
+impl Seek for StandardInput {
+    fn seek(&mut self, _to: SeekFrom) -> io::Result<u64> {
+        Err(io::Error::from(ErrorKind::NotSeekable))
+    }
+}
 
 // What comes after a load: the next one on this window, or nothing more.
 #[derive(Clone, Copy)]
@@ -23,16 +53,26 @@ enum Room {
     Failed,
 }
 
-fn main() {
+fn main(rt: HostRuntime) {
     let mut buffer = [0u8; 65536];
     let mut fee_ids = [0u16; 4096];
     let mut out = [0u8; 65536];
-    list(&mut buffer, &mut fee_ids, &mut out);
+    let mut input = StandardInput {
+        stdin: rt.stdin(),
+        failed: None,
+    };
+    list(&rt, &mut input, &mut buffer, &mut fee_ids, &mut out);
 }
 
 // Lists until a refusal, or until a read or a write fails. Nothing says that an input ends, and a proved loop must: so the turns are counted
 // down, from a number that no run uses up.
-fn list(buffer: &mut [u8], fee_ids: &mut [u16], out: &mut [u8])
+fn list<R: Print + Eprint>(
+    rt: &R,
+    input: &mut StandardInput,
+    buffer: &mut [u8],
+    fee_ids: &mut [u16],
+    out: &mut [u8],
+)
     requires { room ≤ length out.old }
 {
     let set = listing_start::list_settings();
@@ -46,7 +86,7 @@ fn list(buffer: &mut [u8], fee_ids: &mut [u16], out: &mut [u8])
     let mut turns = u64::MAX;
     while turns > 0 {
         turns -= 1;
-        let Room::At(at) = with_room(out, used) else {
+        let Room::At(at) = with_room(rt, out, used) else {
             return;
         };
         let start = 0;
@@ -70,8 +110,8 @@ fn list(buffer: &mut [u8], fee_ids: &mut [u16], out: &mut [u8])
         used = listed.at;
         validator = listed.validator;
         progress = load.progress;
-        let Next::Window(next) = next_window(buffer, held, answer) else {
-            flush(out, used);
+        let Next::Window(next) = next_window(rt, input, buffer, held, answer) else {
+            flush(rt, out, used);
             return;
         };
         held = next;
@@ -79,51 +119,75 @@ fn list(buffer: &mut [u8], fee_ids: &mut [u16], out: &mut [u8])
 }
 
 // The window for the next load. A want reads on; a refusal ends the listing, and so does a read that fails.
-fn next_window(buffer: &mut [u8], held: Held, answer: LoadCdp) -> Next
+fn next_window(
+    rt: &impl Eprint,
+    input: &mut StandardInput,
+    buffer: &mut [u8],
+    held: Held,
+    answer: LoadCdp,
+) -> Next
     requires { held.length ≤ length buffer.old }
     ensures { HeldIn buffer.new result }
 {
     match answer {
         LoadCdp::Packet(_) => Next::Window(held),
-        LoadCdp::Want(place, size) => read_on(buffer, held, place, size),
+        LoadCdp::Want(place, size) => read_on(rt, input, buffer, held, place, size),
         LoadCdp::Refused(_) => Next::End,
     }
 }
 
-fn read_on(buffer: &mut [u8], held: Held, place: BytePlace, size: u64) -> Next
+fn read_on(
+    rt: &impl Eprint,
+    input: &mut StandardInput,
+    buffer: &mut [u8],
+    held: Held,
+    place: BytePlace,
+    size: u64,
+) -> Next
     ensures { HeldIn buffer.new result }
 {
-    match listing_window::refill(libc::STDIN_FILENO, buffer, held, place, size) {
+    match listing_window::refill(input, buffer, held, place, size) {
         Refilled::Window(next) => Next::Window(next),
         Refilled::Failed => {
-            os::fail(b"standard input");
+            if let Some(e) = input.failed.take() {
+                fail(rt, "standard input", e);
+            }
             Next::End
         }
     }
 }
 
 // Room for the lines of a load, behind those that are there; they are written out first if there is none.
-fn with_room(out: &[u8], used: usize) -> Room
+fn with_room<R: Print + Eprint>(rt: &R, out: &[u8], used: usize) -> Room
     requires { (used ≤ length out.now) × (room ≤ length out.now) }
     ensures { RoomIn out.now result }
 {
     if listing_lines::ROOM <= out.len() - used {
         return Room::At(used);
     }
-    if flush(out, used) {
+    if flush(rt, out, used) {
         return Room::At(0);
     }
     Room::Failed
 }
 
 // Writes out the lines. Answers whether that could be done, and says why if not.
-fn flush(out: &[u8], used: usize) -> bool
+fn flush<R: Print + Eprint>(rt: &R, out: &[u8], used: usize) -> bool
     requires { used ≤ length out.now }
 {
     let start = 0;
-    let is_written = io::write_all(libc::STDOUT_FILENO, &out[start..used]);
-    if !is_written {
-        os::fail(b"standard output");
+    match rt.write_all(&out[start..used]) {
+        Ok(()) => true,
+        Err(e) => {
+            fail(rt, "standard output", e);
+            false
+        }
     }
-    is_written
+}
+
+// Writes a line to standard error: what failed, a colon and the system's words, without the number that std puts behind them.
+fn fail(rt: &impl Eprint, what: &str, error: io::Error) {
+    let said = InlineText::<256>::of(error);
+    let words = said.as_str().split(" (os error ").next().unwrap_or("");
+    let _ = eprintln!(rt; "{what}: {words}");
 }
