@@ -9,13 +9,30 @@ ghost use Rattle.bench.specs.Counted.{CountsAll, all, settings_of};
 use filter::{FilterOpt, Option8, Option16};
 use listing_window::{Held, Refilled};
 use scan_cdp::{BytePlace, LoadCdp, Settings, State};
+use std::io::{Error, ErrorKind, Read, Result, Seek, SeekFrom};
 use trigger_stats::COUNTERS;
+
+// A file of the caller's, by its descriptor. A read waits until what is lent is full or nothing more comes, and takes a failure for the end.
+// It cannot be sought: what is skipped is read and dropped.
+#[derive(Drop)]
+struct Descriptor(i32);
+
+impl Read for Descriptor {
+    fn read(&mut self, buf: &mut [u8]) -> Result<usize> {
+        Ok(io::read_full(self.0, buf))
+    }
+}
+
+impl Seek for Descriptor {
+    fn seek(&mut self, _to: SeekFrom) -> Result<u64> {
+        Err(Error::from(ErrorKind::NotSeekable))
+    }
+}
 
 // How many packets a recording has, up to the first refusal. It is read from a file through the window that `buffer` holds; or, if it is
 // `whole`, the buffer is the recording, and nothing is read. There is one call of the load for both, as in a program that uses it. The trigger
 // counts are lent, since of an array that nobody reads the compiler would leave the counting out. Nothing says that an input ends, and a proved
 // loop must: so the turns are counted down, from a number that no run uses up.
-#[unsafe(no_mangle)]
 pub extern "C" fn kesarimbu_load_all(
     fd: i32,
     buffer: &mut [u8],
@@ -29,6 +46,7 @@ pub extern "C" fn kesarimbu_load_all(
         → CountsAll (settings_of skip_payload stats) triggers.old fee_ids.old buffer.old result
         triggers.new }
 {
+    let mut input = Descriptor(fd);
     let set = settings(skip_payload, stats);
     let state = State::new();
     let mut progress = state.progress;
@@ -49,8 +67,9 @@ pub extern "C" fn kesarimbu_load_all(
         match answer {
             LoadCdp::Packet(_) => packets += 1,
             LoadCdp::Want(place, size) => {
-                let Refilled::Window(next) = listing_window::refill(fd, buffer, held, place, size)
-                else {
+                let Refilled::Window(next) = listing_window::refill(
+                    &mut input, buffer, held, place, size,
+                ) else {
                     return packets;
                 };
                 held = next;
