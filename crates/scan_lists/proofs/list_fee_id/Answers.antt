@@ -1,16 +1,16 @@
 -- What is not counted is not listed; what is counted is.
 use mathlib.Core.Path.{◌∙◌}
-use borrow.Author.Tests.{not-false, not-true}
 use Rattle.scan_lists.specs.ListedLaws.{listed, not_listed}
 use Rattle.scan_lists.proofs.list_fee_id.Goals as goal
 
 pub returns-then-not-due : goal.returns-then-not-due
 returns-then-not-due c =
     let args = c.args in
-    not_listed args.due args.fee-id args.used args.fee-ids.now (not-true _ c.if-not-due.true)
+    let (used, places) = not_listed args.due args.fee_id args.used args.fee_ids.now c.if-not-due.true in
+    record { used = used; places = places }
 
 pub returns : goal.returns
 returns c =
     let args = c.args in
-    let (used, places) = listed args.due args.fee-id args.used args.fee-ids.now (not-false _ c.if-not-due.false) in
-    (c.try_add_fee_id.ensures.0 ∙ used, c.try_add_fee_id.ensures.1 ∙ places)
+    let (used, places) = listed args.due args.fee_id args.used args.fee_ids.now c.if-not-due.false in
+    record { used = c.try_add_fee_id.ensures.used ∙ used; places = c.try_add_fee_id.ensures.places ∙ places }
