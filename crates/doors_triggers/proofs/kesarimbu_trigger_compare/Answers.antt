@@ -1,6 +1,0 @@
--- The comparison's reply, as C's struct.
-use Rattle.doors_header_structs.specs.PlainLaws.{told}
-use Rattle.doors_triggers.proofs.kesarimbu_trigger_compare.Goals as goal
-
-pub returns : goal.returns
-returns c = told c.plain_text.ensures c.validate_other.ensures
