@@ -1,6 +1,5 @@
 -- The lines of the listing: a line with its position, and the four last lines (P2, P3, P5).
 use Rattle.std.specs.Prelude.{ℕ, ◌-◌, List, [], ◌∷◌, ◌++◌, map, ltb}
-use Prim.Native.String.{String}
 use Rattle.basis.specs.Pick.{pick}
 use Rattle.text.specs.Ascii.{ascii}
 use Rattle.text_numbers.specs.Numerals.{decimal, numeral}

@@ -1,12 +1,7 @@
 -- The pieces, one behind the other.
 use Rattle.text.specs.PutLaws.{and_then}
 use Rattle.listing_lines.specs.Lines.{line_at}
-use borrow.Author.Rules.{rules}
 use Rattle.listing_lines.proofs.put_line.Goals as goal
-
--- TODO
-slice-aggregate-put-bytes : tie.Need-slice-aggregate-put-bytes
-slice-aggregate-put-bytes c = search rules
 
 pub returns : goal.returns
 unfolding line_at

@@ -1,12 +1,7 @@
 -- `0x`, then the digits.
 use Rattle.text.specs.PutLaws.{and_then}
 use Rattle.listing_lines.specs.Lines.{position_text}
-use borrow.Author.Rules.{rules}
 use Rattle.listing_lines.proofs.position.put.Goals as goal
-
--- TODO
-slice-aggregate-put-bytes : tie.Need-slice-aggregate-put-bytes
-slice-aggregate-put-bytes c = search rules
 
 pub returns : goal.returns
 unfolding position_text
