@@ -24,7 +24,7 @@ def layers_of(text):
             layers.append((re.split("[:;,.]", line[1:])[0].strip(), {}))
         else:
             name, used = line.split(":")
-            layers[-1][1][name] = used.split()
+            layers[-1][1][name.removesuffix(" staticlib")] = used.split()
     return layers
 
 

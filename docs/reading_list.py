@@ -23,7 +23,7 @@ PARTS = {
 
 
 def crates():
-    return re.findall(r"^(\w+):", (ROOT / "crates.txt").read_text(), re.MULTILINE)
+    return re.findall(r"^(\w+)(?: staticlib)?:", (ROOT / "crates.txt").read_text(), re.MULTILINE)
 
 
 def part_of(crate):

@@ -230,7 +230,7 @@ class Triggers(unittest.TestCase):
 
 class LikeTheListingProgram(unittest.TestCase):
     def setUp(self):
-        self.assertTrue(LISTING_PROGRAM.exists(), f"{LISTING_PROGRAM} is not there: `rt check listing` builds it")
+        self.assertTrue(LISTING_PROGRAM.exists(), f"{LISTING_PROGRAM} is not there: `doors/test` builds it")
 
     def hold(self, recording):
         program = subprocess.run([LISTING_PROGRAM], input=recording, stdout=subprocess.PIPE, check=True)

@@ -92,7 +92,7 @@ def header_file():
 
 
 # Functions as Rattle's sources mark them for C: name, what it takes, what it answers. And as C declares them.
-RATTLE_FUNCTION = re.compile(r"#\[no_mangle\]\s*pub extern \"C\" fn (\w+)\((.*?)\) -> (\w+)", re.DOTALL)
+RATTLE_FUNCTION = re.compile(r"#\[unsafe\(no_mangle\)\]\s*pub extern \"C\" fn (\w+)\((.*?)\) -> (\w+)", re.DOTALL)
 C_FUNCTION = re.compile(r"^([\w ]+) (kesarimbu_\w+)\(([^()]*)\);", re.MULTILINE)
 # Rattle's numbers in C, and C's in ctypes.
 C_NUMBERS = {"bool": "bool", "u8": "uint8_t", "u16": "uint16_t", "u32": "uint32_t", "u64": "uint64_t"}
@@ -101,7 +101,7 @@ NUMBERS = {"bool": ctypes.c_bool, "uint8_t": ctypes.c_uint8, "uint16_t": ctypes.
 
 
 def rattle_functions():
-    return [found for path in sorted(ROOT.glob("crates/doors_*/src/**/*.rt")) for found in RATTLE_FUNCTION.findall(path.read_text())]
+    return [found for path in sorted(ROOT.glob("crates/kesarimbu_c/src/**/*.rt")) for found in RATTLE_FUNCTION.findall(path.read_text())]
 
 
 def c_functions():

@@ -82,7 +82,7 @@ def in_pieces(recording, size):
 
 class Lists(unittest.TestCase):
     def setUp(self):
-        self.assertTrue(PROGRAM.exists(), f"{PROGRAM} is not there: `rt check listing` builds it")
+        self.assertTrue(PROGRAM.exists(), f"{PROGRAM} is not there: `doors/test` builds it")
 
     def test_what_the_recordings_are(self):
         self.assertGreater(len(RECORDINGS["long"]), 200 << 10)
