@@ -37,6 +37,7 @@ pub fn layer_stave_string_to_feeid(name: &[u8]) -> StaveFeeId
 }
 
 // The FEE id of a layer and a stave that there are. Its product and its sum are exact, so that no stave is taken for another.
+#[tactic(auto, using(crate::specs::StaveNameLaws::layer_refused, crate::specs::StaveNameLaws::stave_refused))]
 fn stave_feeid(layer: u8, stave: u8) -> StaveFeeId
     ensures { name_answer result ≡ fee_of_stave layer stave }
 {
@@ -78,6 +79,7 @@ fn both_numbers(layer: ParsedU8, stave: ParsedU8) -> ParsedName
 }
 
 // Whether the first byte is one of a stave name: any below 0x80 but `_`.
+#[tactic(auto, using(crate::proofs::Parts::first_byte))]
 fn starts_well(name: &[u8]) -> bool
     ensures { StartParsed name.now result }
 {

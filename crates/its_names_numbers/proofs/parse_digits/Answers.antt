@@ -12,9 +12,6 @@ use Rattle.its_names_numbers.specs.NumberGrammar.{Digit}
 use Rattle.its_names_numbers.proofs.Numbers.{stopped, digit_passed}
 use Rattle.its_names_numbers.proofs.parse_digits.Goals as goal
 
-pub returns-then-text-eq0 : goal.returns-then-text-eq0
-returns-then-text-eq0 c = λ n d. omega (arith, d.one_or_more)
-
 pub loop-i-init : goal.loop-i-init
 unfolding value_of
 loop-i-init c = (omega arith, omega arith, λ k below. absurd (omega arith))
@@ -26,7 +23,7 @@ returns-then-digit-lt48 c =
     λ n d. ⊎_elim (λ w. omega (arith, w, d.each i below)) (λ w. omega (arith, w, d.each i below)) c.then-digit-lt48.either
 
 pub with_digit-value-requires : goal.with_digit-value-requires
-with_digit-value-requires c = (omega arith, (c.if-digit-lt48.false, c.if-digit-gt57.false))
+with_digit-value-requires c = (omega arith, (omega arith, omega arith))
 
 pub loop-i-preserved : goal.loop-i-preserved
 loop-i-preserved c =
@@ -34,7 +31,7 @@ loop-i-preserved c =
     let i = c.loop-i.i in
     let inv = c.loop-i.invariant in
     let spelt = digit_passed text i c.loop-i-test.true in
-    let digit : Digit (get_or text i 0) = (c.if-digit-lt48.false, c.if-digit-gt57.false) in
+    let digit : Digit (get_or text i 0) = (omega arith, omega arith) in
     (omega arith, c.with_digit-value.ensures ∙ stopped _ _ _ inv.1 ∙ ap (min 256) (sym spelt), below_more _ _ inv.2 digit)
 
 pub returns-then-value-eq-TOO_LARGE : goal.returns-then-value-eq-TOO_LARGE
