@@ -107,6 +107,7 @@ pub fn check_kept(kept: LinkKept, rdh: RdhCru) -> LinkCheck
 }
 
 // What is kept of a link, by the entries that the five arrays have for it.
+#[tactic(auto, unfolding(crate::specs::Arrays::kept_of))]
 fn kept_of(seen: u8, last: LastHeader) -> LinkKept
     ensures { result ≡ kept_of seen last }
 {
