@@ -14,4 +14,5 @@ pub mod PacketsClaims
 pub mod OwnPositionsClaims
 pub mod CountedHeadersClaims
 pub mod AddedBytesClaims
+
 -- Why it holds.

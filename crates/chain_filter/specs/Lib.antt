@@ -3,4 +3,5 @@ pub mod Scanned
 -- What is stated.
 pub mod FilterThinsClaims
 pub mod LinkThinnedClaims
+
 -- Why it holds.

@@ -2,4 +2,5 @@
 pub mod Replays
 -- What is stated.
 pub mod AllCallsClaims
+
 -- Why it holds.

@@ -12,7 +12,6 @@ use Rattle.chain.specs.Chain.{Kept}
 use Rattle.chain_replay_calls.specs.OneCall.{call_on, ends_told, lent_as, stand_by, told_on, window_at}
 use Rattle.chain_replay_calls.specs.declared.Asked.{Asked}
 use Rattle.chain_replay_calls.specs.declared.Told.{Told}
-use Rattle.chain_replay_calls.specs.declared.Told.TheVariants as Told
 
 -- ---- its window
 

@@ -1,3 +1,4 @@
 -- What is defined.
 pub mod OneCall
+
 -- Why it holds.

@@ -10,7 +10,6 @@ use Rattle.chain.specs.Chain.{Kept}
 use Rattle.chain_replay_calls.specs.declared.Asked.{Asked}
 use Rattle.chain_replay_calls.specs.declared.Called.{Called}
 use Rattle.chain_replay_calls.specs.declared.Told.{Told}
-use Rattle.chain_replay_calls.specs.declared.Told.TheVariants as Told
 
 -- ---- the call
 
