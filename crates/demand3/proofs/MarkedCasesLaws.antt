@@ -10,12 +10,7 @@ use Rattle.scan_cdp.specs.Outcomes.{filtered, outcome_of}
 use Rattle.stats.specs.Lists.{full, member, twice}
 use Rattle.validators.specs.Verdict.{sound_to}
 use Rattle.demand3.specs.MarkedCases.{marked, sample}
-use Rattle.demand3.specs.MarkedCasesClaims.{AllAgree}
-
--- the proofs of the cases, one after the other
-infixr 20 ◌then◌
-abbrev pub ◌then◌ : {A B : Type 0} → A → B → A × B
-a then b = (a, b)
+use Rattle.demand3.specs.MarkedCasesClaims.{AllAgree, ◌then◌}
 
 -- the last two: a stave filter, and a name (E6, E7)
 filter_and_name : AllAgree (drop 11 marked)

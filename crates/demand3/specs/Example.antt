@@ -29,7 +29,7 @@ use Rattle.chain.specs.Following.{entries_of, kept_after, replies_of}
 use Rattle.chain.specs.OwnPositions.{WholeLoad, offsets, whole_loads}
 use Rattle.chain.specs.Walk.{Met, walk, walk_along}
 use Rattle.chain_filter.specs.Scanned.{filter_by_fee, filter_by_link, no_filter, quick}
-use Rattle.demand3.proofs.MarkedCasesLaws.{◌then◌}
+use Rattle.demand3.specs.MarkedCasesClaims.{◌then◌}
 use Rattle.demand3.specs.MarkedCases.{given_at, plain, sample}
 
 -- Two headers without payload, of two FEE ids.

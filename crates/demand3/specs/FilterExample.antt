@@ -24,7 +24,7 @@ use Rattle.chain.specs.PacketLists.{Packet}
 use Rattle.chain_filter.specs.Scanned.{Ending, filter_by_fee, new_with, no_filter, quick, scanned_in}
 use Rattle.chain.specs.Walk.{walk, walk_along}
 use Rattle.demand3.specs.MarkedCases.{sample}
-use Rattle.demand3.proofs.MarkedCasesLaws.{◌then◌}
+use Rattle.demand3.specs.MarkedCasesClaims.{◌then◌}
 
 -- ---- what is shown of a scan
 

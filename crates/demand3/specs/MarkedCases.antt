@@ -4,7 +4,7 @@ use Rattle.basis.specs.Bytes.{bytes_of}
 use Rattle.basis.specs.Refusals.{Answer, gives, refuses}
 use Rattle.filter.specs.declared.Option8.TheVariants as Option8
 use Rattle.filter.specs.declared.Option16.TheVariants as Option16
-use Rattle.serde_rdh.specs.Layout.{decoded, header}
+use Rattle.serde_rdh.specs.Layout.{decoded}
 use Rattle.scan_cdp.specs.Answers.{Found, handed}
 use Rattle.scan_cdp.specs.declared.Settings.{Settings}
 use Rattle.text.specs.Ascii.{ascii}

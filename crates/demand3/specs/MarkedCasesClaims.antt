@@ -22,3 +22,8 @@ Agrees (name text reply) = named_fee text ≡ reply
 abbrev pub AllAgree : List Case → Type 0
 AllAgree [] = Unit {0}
 AllAgree (c ∷ cs) = Agrees c × AllAgree cs
+
+-- the proofs of the cases, one after the other
+infixr 20 ◌then◌
+abbrev pub ◌then◌ : {A B : Type 0} → A → B → A × B
+a then b = (a, b)
