@@ -182,3 +182,57 @@ fn fill<R: Read>(input: &mut R, buffer: &mut [u8], held: Held, size: u64) -> Ref
         last: false,
     })
 }
+
+#[cfg(test)]
+mod tests {
+    use super::*;
+    use std::io;
+    use std::io::{Cursor, ErrorKind};
+
+    // An input that tells how much was read of it, and that can be sought or not.
+    #[derive(Drop)]
+    struct Told<'a> {
+        input: Cursor<&'a [u8]>,
+        read: u64,
+        is_sought: bool,
+    }
+
+    impl Read for Told<'_> {
+        fn read(&mut self, buf: &mut [u8]) -> io::Result<usize> {
+            let n = self.input.read(buf)?;
+            self.read = self.read.saturating_add(n as u64);
+            Ok(n)
+        }
+    }
+
+    impl Seek for Told<'_> {
+        fn seek(&mut self, to: SeekFrom) -> io::Result<u64> {
+            if self.is_sought {
+                self.input.seek(to)
+            } else {
+                Err(io::Error::from(ErrorKind::NotSeekable))
+            }
+        }
+    }
+
+    #[test]
+    fn what_is_skipped_is_sought_in_a_file_and_read_from_a_pipe(rt: HostRuntime) {
+        let mut bytes = [0u8; 10200];
+        bytes[10064] = 7;
+        for (is_sought, read) in [(true, 64), (false, 10128)] {
+            let mut input = Told {
+                input: Cursor::new(&bytes[..]),
+                read: 0,
+                is_sought,
+            };
+            let mut buffer = [0u8; 64];
+            let refilled = refill(&mut input, &mut buffer, empty(), BytePlace(10064), 64);
+            let Refilled::Window(held) = refilled else {
+                panic!(rt; "a read failed");
+            };
+            assert_eq!(rt; (held.first.0, held.length, held.last), (10064, 64, false));
+            assert_eq!(rt; buffer[0], 7);
+            assert_eq!(rt; input.read, read);
+        }
+    }
+}
