@@ -1,5 +1,5 @@
 -- Laws of the loop: what holds at each turn, and that the loads from there on give what all of them give.
-use Rattle.std.specs.Prelude.{ℕ, zero, suc, ◌+◌, ◌-◌, ◌^◌, ◌≤◌, ◌<◌, Bool, true, false, ◌≡◌, refl, List, [], ◌++◌, ltb}
+use Rattle.std.specs.Prelude.{ℕ, zero, suc, ◌+◌, ◌-◌, ◌^◌, ◌≤◌, ◌<◌, Bool, true, false, ◌≡◌, refl, List, [], ◌++◌}
 use Rattle.std.proofs.lemmas.Bool.{false≢true}
 use Rattle.std.proofs.Math.Path.{ap}
 use Rattle.std.proofs.Common.{sym, subst, ◌∙◌, arith, le-ltb, lt-ltb, length-append}
@@ -27,7 +27,6 @@ use Rattle.listing_packet.specs.Packets.{packet_lines}
 use Rattle.listing_load.specs.LoadLines.{Lists, lines_of, unsound_in, validator_of}
 use Rattle.listing_load.specs.declared.Listed.{Listed}
 use Rattle.listing_batch.specs.Batches.{Batched, Batches, answered, batched, batched_from, unsound_with, is_packet, stop_of, stopped}
-use Rattle.listing_batch.specs.declared.Batch.{Batch}
 use Rattle.listing_batch.specs.declared.Stop.{Stop}
 use Rattle.listing_batch.specs.declared.Stop.TheVariants as Why
 

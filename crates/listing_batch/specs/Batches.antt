@@ -5,7 +5,7 @@ use Rattle.basis.specs.Pick.{pick}
 use Rattle.basis.specs.Refusals.{Answer, gives, refuses}
 use Rattle.validators.specs.declared.RdhCruSanityValidator.{RdhCruSanityValidator}
 use Rattle.scan_cdp.specs.Answers.{Found, handed, load_answer, passed, wants}
-use Rattle.scan_cdp.specs.Loads.{Loaded, loaded}
+use Rattle.scan_cdp.specs.Loads.{loaded}
 use Rattle.scan_cdp.specs.Steps.{with_lent}
 use Rattle.scan_cdp.specs.declared.Part.{Part}
 use Rattle.scan_cdp.specs.declared.Settings.{Settings}

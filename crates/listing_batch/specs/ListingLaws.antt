@@ -2,7 +2,7 @@
 use Rattle.std.specs.Prelude.{ℕ, ◌+◌, ◌≤◌, ◌<◌, Bool, ◌≡◌, List, ◌++◌, length, drop}
 use Rattle.std.proofs.Common.{ap, ◌∙◌, arith, le-ltb, lt-ltb}
 use Rattle.std.proofs.Math.Path.{sym}
-use Rattle.std.proofs.lemmas.List.Edits.{sets, sets_eq}
+use Rattle.std.proofs.lemmas.List.Edits.{sets, sets-eq}
 use Rattle.basis.specs.PickLaws.{off, on}
 use Rattle.validators.specs.declared.RdhCruSanityValidator.{RdhCruSanityValidator}
 use Rattle.scan_cdp.specs.declared.Settings.{Settings}
@@ -16,7 +16,7 @@ use Rattle.listing_batch.specs.declared.Batch.{Batch}
 text_first : (text out left : List ℕ) → left ≡ sets out 0 text → length text ≤ length out → left ≡ text ++ drop (length text) out
 text_first text out left stored fits =
     let start : 0 + length text ≡ length text = omega arith in
-    stored ∙ sets_eq text out 0 (omega (arith, fits)) ∙ ap (λ (n : ℕ). text ++ drop n out) start
+    stored ∙ sets-eq text out 0 (omega (arith, fits)) ∙ ap (λ (n : ℕ). text ++ drop n out) start
 
 left_there : (b : Batched) (out : List ℕ) (r : Batch) (links triggers fee_ids left : List ℕ) → Batches b out r links triggers fee_ids left
     → listing_of r links triggers fee_ids left ≡ left_by b out
