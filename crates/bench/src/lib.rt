@@ -33,7 +33,7 @@ impl Seek for Descriptor {
 // `whole`, the buffer is the recording, and nothing is read. There is one call of the load for both, as in a program that uses it. The trigger
 // counts are lent, since of an array that nobody reads the compiler would leave the counting out. Nothing says that an input ends, and a proved
 // loop must: so the turns are counted down, from a number that no run uses up.
-pub extern "C" fn kesarimbu_load_all(
+pub fn kesarimbu_load_all(
     fd: i32,
     buffer: &mut [u8],
     whole: bool,
