@@ -3,7 +3,6 @@ import contextlib
 import functools
 import os
 import random
-import signal
 import socket
 import subprocess
 import threading
@@ -153,13 +152,13 @@ class BreaksOff(unittest.TestCase):
                 self.hold(run(file, stdout=full), b"standard output: No space left on device\n")
 
     def test_an_output_that_is_closed(self):
-        """The system ends the program by default; where the caller has that signal ignored, it says why."""
-        for restored, told in ((True, (-signal.SIGPIPE, b"")), (False, (0, b"standard output: Broken pipe\n"))):
+        """The program says why, whether its caller has that signal ignored or not: the toolchain's start has it ignored."""
+        for restored in (True, False):
             reading, writing = os.pipe()
             os.close(reading)
             with file_with(RECORDINGS["long"]) as path, open(path, "rb") as file, open(writing, "wb") as closed:
                 status, _, errors = run(file, stdout=closed, restore_signals=restored)
-            self.assertEqual((status, errors), told)
+            self.assertEqual((status, errors), (0, b"standard output: Broken pipe\n"))
 
     def test_an_input_that_cannot_be_read(self):
         folder = os.open(ROOT, os.O_RDONLY)
