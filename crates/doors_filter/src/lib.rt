@@ -17,8 +17,7 @@ pub struct PlainStaveSet {
 }
 
 // The settings with the filter by stave set to the one that is named. A refused name leaves them as they were.
-#[unsafe(no_mangle)]
-pub extern "C" fn kesarimbu_set_stave(settings: PlainSettings, name: &[u8]) -> PlainStaveSet
+pub fn kesarimbu_set_stave(settings: PlainSettings, name: &[u8]) -> PlainStaveSet
     ensures { result ≡ plain_stave_set (named_fee name.now) settings }
 {
     plain_stave_set(its_names::layer_stave_string_to_feeid(name), settings)

@@ -14,16 +14,14 @@ use doors_header_structs::replies::{
 };
 
 // The header in the first 64 bytes.
-#[unsafe(no_mangle)]
-pub extern "C" fn kesarimbu_decode(bytes: &[u8]) -> PlainDecoded
+pub fn kesarimbu_decode(bytes: &[u8]) -> PlainDecoded
     ensures { result ≡ plain_decoded (decode bytes.now) }
 {
     plain_decoded(serde_rdh::from_buf(bytes))
 }
 
 // Writes a header to the first 64 bytes.
-#[unsafe(no_mangle)]
-pub extern "C" fn kesarimbu_encode(header: PlainHeader, out: &mut [u8]) -> u32
+pub fn kesarimbu_encode(header: PlainHeader, out: &mut [u8]) -> u32
     ensures answer { result ≡ refusal_of (encode out.old) }
     ensures left { out.new ≡ encoded_into (header_of header) out.old }
 {
@@ -31,16 +29,14 @@ pub extern "C" fn kesarimbu_encode(header: PlainHeader, out: &mut [u8]) -> u32
 }
 
 // Whether two headers have the same bytes.
-#[unsafe(no_mangle)]
-pub extern "C" fn kesarimbu_equal(header: PlainHeader, other: PlainHeader) -> bool
+pub fn kesarimbu_equal(header: PlainHeader, other: PlainHeader) -> bool
     ensures { Equal (header_of header) (header_of other) result }
 {
     serde_rdh::eq(header_of(header), header_of(other))
 }
 
 // The fields of a header that share a number with others, and whether it has a physics trigger.
-#[unsafe(no_mangle)]
-pub extern "C" fn kesarimbu_parts(header: PlainHeader) -> PlainHeaderParts
+pub fn kesarimbu_parts(header: PlainHeader) -> PlainHeaderParts
     ensures { result ≡ parts_of (header_of header) }
 {
     let rdh = header_of(header);
@@ -61,8 +57,7 @@ pub extern "C" fn kesarimbu_parts(header: PlainHeader) -> PlainHeaderParts
 }
 
 // Writes the row of a header.
-#[unsafe(no_mangle)]
-pub extern "C" fn kesarimbu_row(header: PlainHeader, out: &mut [u8]) -> PlainText
+pub fn kesarimbu_row(header: PlainHeader, out: &mut [u8]) -> PlainText
     ensures answer { result ≡ plain_written (written (row_text (header_of header)) out.old) }
     ensures left { out.new ≡ overwritten (row_text (header_of header)) out.old }
 {

@@ -21,8 +21,7 @@ pub struct PlainLinkCheck {
 }
 
 // What a header yields on its link, of which it becomes the last one.
-#[unsafe(no_mangle)]
-pub extern "C" fn kesarimbu_check_link(
+pub fn kesarimbu_check_link(
     header: PlainHeader,
     seen: &mut [u8; LINKS],
     packet_counters: &mut [u8; LINKS],

@@ -31,8 +31,7 @@ pub struct PlainListed {
 }
 
 // Puts the lines of successive loads at the start of `out`.
-#[unsafe(no_mangle)]
-pub extern "C" fn kesarimbu_list(
+pub fn kesarimbu_list(
     settings: PlainSettings,
     state: PlainState,
     validator: PlainValidator,

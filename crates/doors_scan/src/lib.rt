@@ -15,8 +15,7 @@ use trigger_stats::COUNTERS;
 mod header;
 
 // Examines the header at the state's byte place.
-#[unsafe(no_mangle)]
-pub extern "C" fn kesarimbu_examine(
+pub fn kesarimbu_examine(
     settings: PlainSettings,
     state: PlainState,
     links: &mut [u8; 256],
@@ -41,8 +40,7 @@ pub extern "C" fn kesarimbu_examine(
 }
 
 // Loads the next packet.
-#[unsafe(no_mangle)]
-pub extern "C" fn kesarimbu_load(
+pub fn kesarimbu_load(
     settings: PlainSettings,
     state: PlainState,
     links: &mut [u8; 256],

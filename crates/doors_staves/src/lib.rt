@@ -28,8 +28,7 @@ pub struct PlainNamed {
 }
 
 // Layer, stave and fibre uplink of a FEE id.
-#[unsafe(no_mangle)]
-pub extern "C" fn kesarimbu_fee(fee_id: u16) -> PlainFeeParts
+pub fn kesarimbu_fee(fee_id: u16) -> PlainFeeParts
     ensures { result ≡ fee_parts fee_id }
 {
     let layer = its::layer_from_feeid(fee_id);
@@ -43,24 +42,21 @@ pub extern "C" fn kesarimbu_fee(fee_id: u16) -> PlainFeeParts
 }
 
 // The FEE id of a layer and a stave.
-#[unsafe(no_mangle)]
-pub extern "C" fn kesarimbu_fee_id(layer: u8, stave: u8) -> u16
+pub fn kesarimbu_fee_id(layer: u8, stave: u8) -> u16
     ensures { result ≡ fee_id_of layer stave }
 {
     its::feeid_from_layer_stave(layer, stave)
 }
 
 // Whether two FEE ids have the same layer and stave.
-#[unsafe(no_mangle)]
-pub extern "C" fn kesarimbu_same_stave(fee_id: u16, other: u16) -> bool
+pub fn kesarimbu_same_stave(fee_id: u16, other: u16) -> bool
     ensures { result ≡ same_stave fee_id other }
 {
     its::is_match_feeid_layer_stave(fee_id, other)
 }
 
 // The FEE id of the stave that is named.
-#[unsafe(no_mangle)]
-pub extern "C" fn kesarimbu_name(name: &[u8]) -> PlainNamed
+pub fn kesarimbu_name(name: &[u8]) -> PlainNamed
     ensures { result ≡ plain_named (named_fee name.now) }
 {
     plain_named(its_names::layer_stave_string_to_feeid(name))

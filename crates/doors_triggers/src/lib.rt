@@ -11,8 +11,7 @@ use doors_header_structs::plain::{PlainText, plain_text};
 use trigger_stats::COUNTERS;
 
 // Writes the list of the counts.
-#[unsafe(no_mangle)]
-pub extern "C" fn kesarimbu_trigger_list(triggers: &[u32; COUNTERS], out: &mut [u8]) -> PlainText
+pub fn kesarimbu_trigger_list(triggers: &[u32; COUNTERS], out: &mut [u8]) -> PlainText
     ensures answer { result ≡ plain_written (written (list_text triggers.now) out.old) }
     ensures left { out.new ≡ overwritten (list_text triggers.now) out.old }
 {
@@ -20,8 +19,7 @@ pub extern "C" fn kesarimbu_trigger_list(triggers: &[u32; COUNTERS], out: &mut [
 }
 
 // Writes a line for each count that is not the expected one, in the order of the counts.
-#[unsafe(no_mangle)]
-pub extern "C" fn kesarimbu_trigger_compare(
+pub fn kesarimbu_trigger_compare(
     triggers: &[u32; COUNTERS],
     expected: &[u32; COUNTERS],
     out: &mut [u8],

@@ -25,8 +25,7 @@ pub struct PlainChecked {
 }
 
 // Checks a header, and writes the text that names what is wrong with it.
-#[unsafe(no_mangle)]
-pub extern "C" fn kesarimbu_check(
+pub fn kesarimbu_check(
     validator: PlainValidator,
     header: PlainHeader,
     text: &mut [u8],
