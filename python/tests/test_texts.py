@@ -20,10 +20,10 @@ TEXTS = {
 }
 NUMBER = re.compile(r"0x[0-9a-f]+|[0-9]+|b'.'")
 CALL = re.compile(
-    r"""cases_show::text\(b"(?P<heading>[^"\[\]]+)\\n"\)"""
-    r"""|\b(?P<just>just)\((?P<room>\d+), Piece::(?P<number>\w+)\((?P<value>[^)]*)\)"""
-    r"""|\bcase\(\s*(?P<length>\d+),\s*(?P<at>\d+),\s*Piece::(?P<piece>\w+)\((?P<values>[^)]*)\)"""
-    r"""|\bstring\((?P<buffer>\d+), (?P<place>\d+), b"(?P<text>[^"]*)"\)"""
+    r"""cases_show::text\(rt, b"(?P<heading>[^"\[\]]+)\\n"\)"""
+    r"""|\b(?P<just>just)\(rt, (?P<room>\d+), Piece::(?P<number>\w+)\((?P<value>[^)]*)\)"""
+    r"""|\bcase\(\s*rt,\s*(?P<length>\d+),\s*(?P<at>\d+),\s*Piece::(?P<piece>\w+)\((?P<values>[^)]*)\)"""
+    r"""|\bstring\(rt, (?P<buffer>\d+), (?P<place>\d+), b"(?P<text>[^"]*)"\)"""
 )
 
 
