@@ -1,3 +1,4 @@
+-- Why it holds.
 pub mod AddedBytesLaws
 pub mod CallsFollowLaws
 pub mod CallsLaws

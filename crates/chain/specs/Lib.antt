@@ -14,5 +14,3 @@ pub mod PacketsClaims
 pub mod OwnPositionsClaims
 pub mod CountedHeadersClaims
 pub mod AddedBytesClaims
-
--- Why it holds.

@@ -1,3 +1,4 @@
+-- Why it holds.
 pub mod EndLaws
 pub mod FilterPartsLaws
 pub mod FilterStepLaws

@@ -3,5 +3,3 @@ pub mod Scanned
 -- What is stated.
 pub mod FilterThinsClaims
 pub mod LinkThinnedClaims
-
--- Why it holds.

@@ -1,2 +1,3 @@
+-- Why it holds.
 pub mod AllCallsLaws
 pub mod ReplaysLaws

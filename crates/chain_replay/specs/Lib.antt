@@ -2,5 +2,3 @@
 pub mod Replays
 -- What is stated.
 pub mod AllCallsClaims
-
--- Why it holds.

@@ -1,1 +1,2 @@
+-- Why it holds.
 pub mod OneCallLaws

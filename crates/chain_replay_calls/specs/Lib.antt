@@ -1,4 +1,2 @@
 -- What is defined.
 pub mod OneCall
-
--- Why it holds.
