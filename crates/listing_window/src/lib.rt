@@ -186,18 +186,19 @@ fn fill<R: Read>(input: &mut R, buffer: &mut [u8], held: Held, size: u64) -> Ref
 #[cfg(test)]
 mod tests {
     use super::*;
+    use std::fs::File;
     use std::io;
     use std::io::{Cursor, ErrorKind};
 
     // An input that tells how much was read of it, and that can be sought or not.
     #[derive(Drop)]
-    struct Told<'a> {
-        input: Cursor<&'a [u8]>,
+    struct Told<R> {
+        input: R,
         read: u64,
         is_sought: bool,
     }
 
-    impl Read for Told<'_> {
+    impl<R: Read> Read for Told<R> {
         fn read(&mut self, buf: &mut [u8]) -> io::Result<usize> {
             let n = self.input.read(buf)?;
             self.read = self.read.saturating_add(n as u64);
@@ -205,7 +206,7 @@ mod tests {
         }
     }
 
-    impl Seek for Told<'_> {
+    impl<R: Seek> Seek for Told<R> {
         fn seek(&mut self, to: SeekFrom) -> io::Result<u64> {
             if self.is_sought {
                 self.input.seek(to)
@@ -216,7 +217,7 @@ mod tests {
     }
 
     #[test]
-    fn what_is_skipped_is_sought_in_a_file_and_read_from_a_pipe(rt: HostRuntime) {
+    fn what_is_skipped_is_sought_where_it_can_be_and_else_read(rt: HostRuntime) {
         let mut bytes = [0u8; 10200];
         bytes[10064] = 7;
         for (is_sought, read) in [(true, 64), (false, 10128)] {
@@ -234,5 +235,24 @@ mod tests {
             assert_eq!(rt; buffer[0], 7);
             assert_eq!(rt; input.read, read);
         }
+    }
+
+    // The test's own program is a file that is long enough.
+    #[test]
+    fn what_is_skipped_is_sought_in_a_file(rt: HostRuntime) -> io::Result<()> {
+        let mut input = Told {
+            input: File::open(&rt, "/proc/self/exe")?,
+            read: 0,
+            is_sought: true,
+        };
+        let mut buffer = [0u8; 64];
+        let refilled = refill(&mut input, &mut buffer, empty(), BytePlace(5000), 64);
+        let Refilled::Window(held) = refilled else {
+            panic!(rt; "a read failed");
+        };
+        assert_eq!(rt; (held.first.0, held.length, held.last), (5000, 64, false));
+        assert_eq!(rt; input.read, 64);
+        assert_eq!(rt; input.input.stream_position()?, 5064);
+        Ok(())
     }
 }
