@@ -12,7 +12,7 @@ use link_continuity::{LINKS, LinkCheck, check_link};
 
 // Which fields of the header are not as they must be, and how far its packet counter is ahead of the expected one.
 #[repr(C)]
-#[derive(Clone, Copy)]
+#[derive(Clone, Copy, Debug, PartialEq, Eq)]
 pub struct PlainLinkCheck {
     pub packet_counter: bool,
     pub pages_counter: bool,
@@ -43,23 +43,26 @@ pub fn kesarimbu_check_link(
         orbits.old stop_bits.old)
         (header_of header) }
 {
-    plain_link_check(check_link(
+    let check = check_link(
         header_of(header),
         seen,
         packet_counters,
         pages_counters,
         orbits,
         stop_bits,
-    ))
+    );
+    PlainLinkCheck::from(check)
 }
 
-fn plain_link_check(check: LinkCheck) -> PlainLinkCheck
-    ensures { result ≡ plain_link_check check }
-{
-    PlainLinkCheck {
-        packet_counter: check.packet_counter,
-        pages_counter: check.pages_counter,
-        orbit: check.orbit,
-        distance: check.distance,
+impl From<LinkCheck> for PlainLinkCheck {
+    fn from(check: LinkCheck) -> PlainLinkCheck
+        ensures { result ≡ plain_link_check check }
+    {
+        PlainLinkCheck {
+            packet_counter: check.packet_counter,
+            pages_counter: check.pages_counter,
+            orbit: check.orbit,
+            distance: check.distance,
+        }
     }
 }
