@@ -1,5 +1,5 @@
 -- What a scan answers (W8), and the numbers and values of its refusals (R1 to R4, R6).
-use Rattle.std.specs.Prelude.{ℕ, List, [], ◌∷◌, ℤ, pos}
+use Rattle.std.specs.Prelude.{ℕ, List, [], ◌∷◌, ℤ, pos, Option, None, Some, Result, Ok, Err}
 use Rattle.basis.specs.Refusals.{Answer, gives, refuses}
 use Rattle.rdh.specs.declared.rdh_cru.RdhCru.{RdhCru}
 use Rattle.scan_cdp.specs.declared.BytePlace.{BytePlace}
@@ -10,8 +10,6 @@ use Rattle.scan_cdp.specs.declared.Refusal.{Refusal}
 use Rattle.scan_cdp.specs.declared.Refusal.TheVariants.{End, OffsetToNext, MemorySize, FeeIdsFull, Unusable}
 use Rattle.scan_cdp.specs.declared.LoadCdp.{LoadCdp}
 use Rattle.scan_cdp.specs.declared.LoadCdp.TheVariants as Loads
-use Rattle.scan_cdp.specs.declared.Examined.{Examined}
-use Rattle.scan_cdp.specs.declared.Examined.TheVariants.{Passed, Answered}
 
 -- What is handed out (S5): a header, its payload, the position at which its load started, and its own, which the scan reported when it
 -- examined that header. On the chain a payload is bytes, in a reply it is a part of the window.
@@ -61,13 +59,18 @@ refusal why = refuses (number_of why) (values_of why)
 abbrev pub handed_by : Packet → Handed Part
 handed_by packet = record { header = packet.rdh; payload = packet.payload; position = packet.position; own = packet.own }
 
+-- What a load that is not refused finds.
+abbrev pub found_by : LoadCdp → Found Part
+found_by (Loads.Packet packet) = handed (handed_by packet)
+found_by (Loads.Want place size) = wants place size
+
 -- What a load answers.
-abbrev pub load_answer : LoadCdp → Answer (Found Part)
-load_answer (Loads.Packet packet) = gives (handed (handed_by packet))
-load_answer (Loads.Want place size) = gives (wants place size)
-load_answer (Loads.Refused r) = refusal r
+abbrev pub load_answer : Result LoadCdp Refusal → Answer (Found Part)
+load_answer (Ok found) = gives (found_by found)
+load_answer (Err why) = refusal why
 
 -- What an examination answers.
-abbrev pub examined_answer : Examined → Answer (Found Part)
-examined_answer Passed = gives passed
-examined_answer (Answered a) = load_answer a
+abbrev pub examined_answer : Result (Option LoadCdp) Refusal → Answer (Found Part)
+examined_answer (Ok None) = gives passed
+examined_answer (Ok (Some found)) = gives (found_by found)
+examined_answer (Err why) = refusal why

@@ -4,3 +4,4 @@ pub mod Steps
 pub mod Windows
 pub mod Loads
 pub mod SkipDistanceClaims
+pub mod Scans

@@ -1,12 +1,11 @@
 -- A load on a window: examinations up to the first that does not pass its header, with the marks of all of them (L1 to L3).
-use Rattle.std.specs.Prelude.{ℕ, zero, suc, ◌+◌, ◌/◌, Bool, true, false, ◌||◌, List, length}
+use Rattle.std.specs.Prelude.{ℕ, zero, suc, ◌+◌, ◌/◌, Bool, true, false, ◌||◌, List, length, Option, None, Some}
 use Rattle.basis.specs.Pick.{pick}
 use Rattle.basis.specs.Refusals.{Answer, gives, refuses}
 use Rattle.scan_cdp.specs.Answers.{Found, handed, passed, wants}
 use Rattle.scan_cdp.specs.Steps.{Entry}
 use Rattle.scan_cdp.specs.Windows.{examined}
 use Rattle.scan_cdp.specs.declared.Initial.{Initial}
-use Rattle.scan_cdp.specs.declared.Initial.TheVariants as Report
 use Rattle.scan_cdp.specs.declared.LoadMarks.{LoadMarks}
 use Rattle.scan_cdp.specs.declared.Marks.{Marks}
 use Rattle.scan_cdp.specs.declared.Part.{Part}
@@ -22,12 +21,12 @@ pub record Loaded (P : Type 0) : Type 0 where
 
 abbrev pub no_load_marks : LoadMarks
 no_load_marks =
-    record { initial = Report.None; seen_carries = 0; filtered_carry = false; payload_carry = false; payload_cut = false }
+    record { initial = None; seen_carries = 0; filtered_carry = false; payload_carry = false; payload_cut = false }
 
 -- One initial mark is enough for a load: its first header alone can have one (S2, L2).
-abbrev pub either_initial : Initial → Initial → Initial
-either_initial Report.None later = later
-either_initial (Report.Report trigger format system) later = Report.Report trigger format system
+abbrev pub either_initial : Option Initial → Option Initial → Option Initial
+either_initial None later = later
+either_initial (Some initial) later = Some initial
 
 -- The marks of some examinations with those of the next one: carries of seen are counted (L2).
 unfoldable pub together : LoadMarks → Marks → LoadMarks

@@ -1,6 +1,6 @@
 -- The step of the chain: what S1 to S8 make of the header at the byte place, over a recording, with no window and no want. A recording shows
 -- itself to a step as the bytes from the byte place on, and as the place at which it ends.
-use Rattle.std.specs.Prelude.{ℕ, ◌+◌, ◌^◌, max, Bool, true, false, not, ◌||◌, ◌&&◌, List, [], ◌∷◌, eqb, ltb, pos, length, take, drop, replicate}
+use Rattle.std.specs.Prelude.{ℕ, ◌+◌, ◌^◌, max, Bool, true, false, not, ◌||◌, ◌&&◌, List, [], ◌∷◌, eqb, ltb, pos, length, take, drop, replicate, Option, None, Some}
 use Rattle.basis.specs.Pick.{pick}
 use Rattle.basis.specs.Refusals.{Answer, gives, refuses}
 use Rattle.filter.specs.Filter.{enabled}
@@ -15,13 +15,10 @@ use Rattle.scan_cdp.specs.Answers.{Found, answer_as, handed, passed}
 use Rattle.scan_cdp.specs.Outcomes.{is_counted, header_fee_id, hands_out, matched, header_memory_size, offset, payload_size, outcome_of, skip_distance, header_trigger_type}
 use Rattle.scan_cdp.specs.declared.Position.{Position}
 use Rattle.scan_cdp.specs.declared.Settings.{Settings}
-use Rattle.scan_cdp.specs.declared.OpenLoad.{OpenLoad}
-use Rattle.scan_cdp.specs.declared.OpenLoad.TheVariants as Load
 use Rattle.scan_cdp.specs.declared.Counts.{Counts}
 use Rattle.scan_cdp.specs.declared.Progress.{Progress}
 use Rattle.scan_cdp.specs.declared.State.{State}
 use Rattle.scan_cdp.specs.declared.Initial.{Initial}
-use Rattle.scan_cdp.specs.declared.Initial.TheVariants as Report
 use Rattle.scan_cdp.specs.declared.Marks.{Marks}
 use Rattle.scan_cdp.specs.declared.Tally.{Tally}
 use Rattle.scan_cdp.specs.declared.Outcome.{Outcome}
@@ -45,7 +42,7 @@ new_state =
       progress = record {
         place = record { 0 = 0 };
         position = record { 0 = 0 };
-        load = Load.None;
+        load = None;
         counts = record { seen = 0; filtered = 0; payload = 0 };
         links_used = 0;
         fee_ids_used = 0;
@@ -75,7 +72,7 @@ abbrev pub with_lent : Progress → (links triggers : List ℕ) → State
 with_lent p links triggers = record { progress = p; links = links; triggers = triggers }
 
 -- The state with this load open, or none, and with all else as it was.
-abbrev pub with_load : OpenLoad → State → State
+abbrev pub with_load : Option Position → State → State
 with_load load s =
     record {
       progress = record {
@@ -92,7 +89,7 @@ with_load load s =
 
 -- The state with no load open (S7).
 abbrev pub closed : State → State
-closed = with_load Load.None
+closed = with_load None
 
 -- ---- step 1
 
@@ -113,7 +110,7 @@ unusable s fee_ids =
     numbers_unusable s.progress (length s.links) (length fee_ids) || twice (take s.progress.links_used s.links)
 
 abbrev pub no_marks : Marks
-no_marks = record { initial = Report.None; seen_carry = false; filtered_carry = false; payload_carry = false; payload_cut = false }
+no_marks = record { initial = None; seen_carry = false; filtered_carry = false; payload_carry = false; payload_cut = false }
 
 -- A call that changes nothing.
 abbrev pub unchanged : {P : Type 0} → State → List ℕ → Answer (Found P) → Entry P
@@ -132,20 +129,24 @@ ended s fee_ids end =
 -- ---- step 2
 
 -- Whether a header is the first of a load: no load is open (T4).
-abbrev pub is_first : OpenLoad → Bool
-is_first Load.None = true
-is_first (Load.From start) = false
+abbrev pub is_first : Option Position → Bool
+is_first None = true
+is_first (Some start) = false
 
 -- What becomes of the header (S2 to S5). With statistics off there is no refusal 4 (S8).
 unfoldable pub outcome_in : Settings → Progress → List ℕ → RdhCru → Outcome
 outcome_in set p fee_ids h = outcome_of set (is_first p.load) (set.stats && full (header_fee_id h) p.fee_ids_used fee_ids) h
 
 -- The initial mark, with its three values: a first header at position 0, statistics on (S2, W8).
-unfoldable pub initial_of : Bool → Bool → Position → RdhCru → Initial
+unfoldable pub initial_of : Bool → Bool → Position → RdhCru → Option Initial
 initial_of stats first position h =
     pick (stats && first && eqb position.0 0)
-    (Report.Report (header_trigger_type h) (data_format_of h.dataformat_reserved0.0) h.rdh0.system_id)
-    Report.None
+    (Some (record {
+      trigger_type = header_trigger_type h;
+      data_format = data_format_of h.dataformat_reserved0.0;
+      system_id = h.rdh0.system_id;
+    }))
+    None
 
 -- A count that grows by n if it is to be raised.
 unfoldable pub raised : Bool → ℕ → ℕ → Count
@@ -184,17 +185,17 @@ position_after Passed h position = position + offset h
 position_after HandedOut h position = position + offset h
 
 -- The position from the start of the load, which a packet is given (S5).
-abbrev pub start_of : OpenLoad → Position → Position
-start_of Load.None position = position
-start_of (Load.From start) position = start
+abbrev pub start_of : Option Position → Position → Position
+start_of None position = position
+start_of (Some start) position = start
 
 -- Only a passed header leaves a load open, with its start (S7).
-abbrev pub load_after : Outcome → OpenLoad → Position → OpenLoad
-load_after FeeIdsFull load position = Load.None
-load_after BadOffset load position = Load.None
-load_after MemorySize load position = Load.None
-load_after Passed load position = Load.From (start_of load position)
-load_after HandedOut load position = Load.None
+abbrev pub load_after : Outcome → Option Position → Position → Option Position
+load_after FeeIdsFull load position = None
+load_after BadOffset load position = None
+load_after MemorySize load position = None
+load_after Passed load position = Some (start_of load position)
+load_after HandedOut load position = None
 
 -- What is answered: refusal 2 with the signed distance and the position at this header (R2), a packet with its load's start and, as its own,
 -- the position at this header (S5).

@@ -8,17 +8,19 @@ ghost use Rattle.scan_cdp.specs.Steps.{new_state};
 use filter::FilterOpt;
 use rdh::rdh_cru::RdhCru;
 use stats::Count;
+use std::error::Error;
+use std::fmt;
 use trigger_stats::COUNTERS;
 
 // A byte place in the recording, which the reading goes by (W2, F3).
-#[derive(Clone, Copy)]
+#[derive(Clone, Copy, Debug, Default, PartialEq, Eq)]
 pub struct BytePlace(pub u64);
 
 // 2^60: no place, position or window end is above it (R6).
 pub const LIMIT: u64 = 1_152_921_504_606_846_976;
 
 // A reported position, which is printed and never read at: offsets alone move it (W2, F3).
-#[derive(Clone, Copy)]
+#[derive(Clone, Copy, Debug, Default, PartialEq, Eq)]
 pub struct Position(pub u64);
 
 #[derive(Clone, Copy)]
@@ -28,35 +30,28 @@ pub struct Settings {
     pub stats: bool,
 }
 
-// Whether a load is open, and the position that it started from. Only a header that was passed leaves one open (S7).
-#[derive(Clone, Copy)]
-pub enum OpenLoad {
-    None,
-    From(Position),
-}
-
 // The three counts of a scan.
-#[derive(Clone, Copy)]
+#[derive(Clone, Copy, Debug, Default, PartialEq, Eq)]
 pub struct Counts {
     pub seen: u32,
     pub filtered: u32,
     pub payload: u32,
 }
 
-// How far a scan has come: all of its state but the links and the trigger counts. The used numbers are those of the links and of the lent FEE
-// ids.
-#[derive(Clone, Copy)]
+// How far a scan has come: all of its state but the links and the trigger counts. `load` is the position that the open load started from: only
+// a header that was passed leaves one open (S7). The used numbers are those of the links and of the lent FEE ids.
+#[derive(Clone, Copy, Debug, Default, PartialEq, Eq)]
 pub struct Progress {
     pub place: BytePlace,
     pub position: Position,
-    pub load: OpenLoad,
+    pub load: Option<Position>,
     pub counts: Counts,
     pub links_used: usize,
     pub fee_ids_used: usize,
 }
 
 // The state that a scan keeps between two calls (W1). The FEE ids are in a list that is lent.
-#[derive(Clone, Copy)]
+#[derive(Clone, Copy, Debug, PartialEq, Eq)]
 pub struct State {
     pub progress: Progress,
     pub links: [u8; 256],
@@ -69,18 +64,7 @@ impl State {
         ensures { result ≡ new_state }
     {
         State {
-            progress: Progress {
-                place: BytePlace(0),
-                position: Position(0),
-                load: OpenLoad::None,
-                counts: Counts {
-                    seen: 0,
-                    filtered: 0,
-                    payload: 0,
-                },
-                links_used: 0,
-                fee_ids_used: 0,
-            },
+            progress: Progress::default(),
             links: [0; 256],
             triggers: [0; COUNTERS],
         }
@@ -88,16 +72,17 @@ impl State {
 }
 
 // The mark of a load's first header at position 0, with what is assumed to be the same for the rest of the recording.
-#[derive(Clone, Copy)]
-pub enum Initial {
-    None,
-    Report(u32, u8, u8), // trigger type, data format, system id
+#[derive(Clone, Copy, Debug, PartialEq, Eq)]
+pub struct Initial {
+    pub trigger_type: u32,
+    pub data_format: u8,
+    pub system_id: u8,
 }
 
 // What is reported of one header (W8): the initial mark, counts that were full, and a payload that the recording's end cut (E100).
-#[derive(Clone, Copy)]
+#[derive(Clone, Copy, Debug, Default, PartialEq, Eq)]
 pub struct Marks {
-    pub initial: Initial,
+    pub initial: Option<Initial>,
     pub seen_carry: bool,
     pub filtered_carry: bool,
     pub payload_carry: bool,
@@ -105,9 +90,9 @@ pub struct Marks {
 }
 
 // What is reported of all headers that a load examined (L2): the marks of each together, with the carries of seen as their number.
-#[derive(Clone, Copy)]
+#[derive(Clone, Copy, Debug, Default, PartialEq, Eq)]
 pub struct LoadMarks {
-    pub initial: Initial,
+    pub initial: Option<Initial>,
     pub seen_carries: u64,
     pub filtered_carry: bool,
     pub payload_carry: bool,
@@ -115,7 +100,7 @@ pub struct LoadMarks {
 }
 
 // A part of the window (W9).
-#[derive(Clone, Copy)]
+#[derive(Clone, Copy, Debug, PartialEq, Eq)]
 pub struct Part {
     pub start: usize,
     pub length: usize,
@@ -131,7 +116,7 @@ pub struct Packet {
 }
 
 // Refusals 1 to 4, and 6: why there is no 5, R5 says.
-#[derive(Clone, Copy)]
+#[derive(Clone, Copy, Debug, PartialEq, Eq)]
 pub enum Refusal {
     End,
     OffsetToNext(i32, Position), // the offset less 64, and the position of the header
@@ -155,23 +140,36 @@ impl Refusal {
     }
 }
 
-// What a load answers: a packet; a want for so many bytes from a place on; or a refusal.
+impl fmt::Display for Refusal {
+    fn fmt<W: fmt::Write>(&self, f: &mut fmt::Formatter<W>) -> fmt::Result {
+        match self {
+            Refusal::End => write!(f, "the recording ends before the next header"),
+            Refusal::OffsetToNext(_, _) => write!(
+                f,
+                "the offset to the next header is outside 64 to 10064"
+            ),
+            Refusal::MemorySize => write!(f, "the memory size is below 64"),
+            Refusal::FeeIdsFull => write!(f, "the list of FEE ids is full"),
+            Refusal::Unusable => write!(
+                f,
+                "no scan leaves such a state, or the window does not fit it"
+            ),
+        }
+    }
+}
+
+impl Error for Refusal {}
+
+// What a load answers, unless it is refused: a packet, or a want for so many bytes from a place on. Where the examination of one header answers
+// none, the header was passed.
 #[derive(Clone, Copy)]
 pub enum LoadCdp {
     Packet(Packet),
     Want(BytePlace, u64),
-    Refused(Refusal),
-}
-
-// What the examination of one header answers: it was passed, or it ends the load.
-#[derive(Clone, Copy)]
-pub enum Examined {
-    Passed,
-    Answered(LoadCdp),
 }
 
 // A header is refused with 4, 2 or 3, is passed, or is handed out.
-#[derive(Clone, Copy)]
+#[derive(Clone, Copy, Debug, PartialEq, Eq)]
 pub enum Outcome {
     FeeIdsFull,
     BadOffset,
@@ -186,4 +184,22 @@ pub struct Tally {
     pub seen: Count,
     pub filtered: Count,
     pub payload: Count,
+}
+
+// A window on the recording: its bytes from the place `first` on. The recording ends with the `last` one.
+#[derive(Clone, Copy)]
+pub struct Window<'a> {
+    pub bytes: &'a [u8],
+    pub first: BytePlace,
+    pub last: bool,
+}
+
+// A scan while calls go on: what it is asked for, how far it has come, and the links, trigger counts and FEE ids where they are lent.
+#[derive(Drop)]
+pub struct Scan<'a> {
+    pub set: Settings,
+    pub progress: Progress,
+    pub links: &'a mut [u8],
+    pub triggers: &'a mut [u32; COUNTERS],
+    pub fee_ids: &'a mut [u16],
 }
