@@ -1,16 +1,12 @@
 -- Laws of the filter: one is set exactly where not everything is taken by it, and a stave filter looks at layer and stave alone.
-use Rattle.std.specs.Prelude.{◌≡◌, refl, Bool, true, false, ◌||◌, ℕ, eqb}
+use Rattle.std.specs.Prelude.{◌≡◌, refl, Bool, true, false, ◌||◌, ℕ, eqb, Option, Some, None, is_some}
 use Rattle.std.proofs.Common.{ap, sym, ◌∙◌, true≢false, arith}
 use Rattle.rdh.specs.Subfields.{layer_of, stave_of}
 use Rattle.its.specs.FeeIdLaws.{layer_stave, same_stave_numbers}
-use Rattle.filter.specs.declared.Option8.{Option8}
-use Rattle.filter.specs.declared.Option8.TheVariants as o8
-use Rattle.filter.specs.declared.Option16.{Option16}
-use Rattle.filter.specs.declared.Option16.TheVariants as o16
 use Rattle.filter.specs.declared.FilterOpt.{FilterOpt}
 use Rattle.filter.specs.declared.FilterTarget.{FilterTarget}
 use Rattle.filter.specs.declared.FilterTarget.TheVariants.{Link, Fee, ItsLayerStave, All}
-use Rattle.filter.specs.Filter.{is_set8, is_set16, first_set, target_of, enabled, matches}
+use Rattle.filter.specs.Filter.{first_set, target_of, enabled, matches}
 
 -- Whether a header is compared at all: it is with every target but `All`.
 abbrev pub compares : FilterTarget → Bool
@@ -19,12 +15,12 @@ compares (Fee id) = true
 compares (ItsLayerStave id) = true
 compares All = false
 
-any_compares : (link : Option8) (fee stave : Option16)
-    → (is_set8 link || is_set16 fee) || is_set16 stave ≡ compares (first_set link fee stave)
-any_compares (o8.Some n) fee stave = refl
-any_compares o8.None (o16.Some n) stave = refl
-any_compares o8.None o16.None (o16.Some n) = refl
-any_compares o8.None o16.None o16.None = refl
+any_compares : (link fee stave : Option ℕ)
+    → (is_some link || is_some fee) || is_some stave ≡ compares (first_set link fee stave)
+any_compares (Some n) fee stave = refl
+any_compares None (Some n) stave = refl
+any_compares None None (Some n) = refl
+any_compares None None None = refl
 
 -- a filter is set exactly where the target is not `All`
 pub enabled-compares : (opt : FilterOpt) → enabled opt ≡ compares (target_of opt)

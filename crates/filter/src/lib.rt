@@ -2,53 +2,18 @@
 #![tactic(auto)]
 
 ghost use Rattle.std.specs.Prelude.{◌≡◌};
-ghost use Rattle.filter.specs.Filter.{is_set8, is_set16, target_of, enabled, matches};
-
-// A number that may be set, for links and for FEE ids.
-#[derive(Clone, Copy)]
-pub enum Option8 {
-    None,
-    Some(u8),
-}
-
-#[derive(Clone, Copy)]
-pub enum Option16 {
-    None,
-    Some(u16),
-}
-
-impl Option8 {
-    fn is_some(self) -> bool
-        ensures { result ≡ is_set8 self }
-    {
-        match self {
-            Option8::None => false,
-            Option8::Some(_) => true,
-        }
-    }
-}
-
-impl Option16 {
-    fn is_some(self) -> bool
-        ensures { result ≡ is_set16 self }
-    {
-        match self {
-            Option16::None => false,
-            Option16::Some(_) => true,
-        }
-    }
-}
+ghost use Rattle.filter.specs.Filter.{target_of, enabled, matches};
 
 // The filters of the settings. Several may be set at once.
-#[derive(Clone, Copy)]
+#[derive(Clone, Copy, Debug, Default, PartialEq, Eq)]
 pub struct FilterOpt {
-    pub filter_link: Option8,
-    pub filter_fee: Option16,
-    pub filter_its_stave: Option16,
+    pub filter_link: Option<u8>,
+    pub filter_fee: Option<u16>,
+    pub filter_its_stave: Option<u16>,
 }
 
 // What a header is compared with: `All` where no filter is set, which the Rust has as `None`.
-#[derive(Clone, Copy)]
+#[derive(Clone, Copy, Debug, PartialEq, Eq)]
 pub enum FilterTarget {
     Link(u8),
     Fee(u16),
@@ -60,29 +25,19 @@ pub enum FilterTarget {
 pub fn filter_target(opt: FilterOpt) -> FilterTarget
     ensures { result ≡ target_of opt }
 {
-    let filter_link = opt.filter_link;
-    let filter_fee = opt.filter_fee;
-    let filter_its_stave = opt.filter_its_stave;
-    if let Option8::Some(link) = filter_link {
-        return FilterTarget::Link(link);
+    match (opt.filter_link, opt.filter_fee, opt.filter_its_stave) {
+        (Some(link), _, _) => FilterTarget::Link(link),
+        (None, Some(fee), _) => FilterTarget::Fee(fee),
+        (None, None, Some(stave)) => FilterTarget::ItsLayerStave(stave),
+        (None, None, None) => FilterTarget::All,
     }
-    if let Option16::Some(fee) = filter_fee {
-        return FilterTarget::Fee(fee);
-    }
-    if let Option16::Some(its_layer_stave) = filter_its_stave {
-        return FilterTarget::ItsLayerStave(its_layer_stave);
-    }
-    FilterTarget::All
 }
 
 // Whether any filter is set.
 pub fn filter_enabled(opt: FilterOpt) -> bool
     ensures { result ≡ enabled opt }
 {
-    let link = opt.filter_link;
-    let fee = opt.filter_fee;
-    let stave = opt.filter_its_stave;
-    link.is_some() | fee.is_some() | stave.is_some()
+    opt.filter_link.is_some() || opt.filter_fee.is_some() || opt.filter_its_stave.is_some()
 }
 
 // Whether a header with this link and this FEE id is taken. It gets the two numbers alone, since nothing else of a header is compared.
