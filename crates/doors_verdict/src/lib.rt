@@ -8,15 +8,15 @@ ghost use Rattle.doors_header_structs.specs.Plain.{header_of};
 ghost use Rattle.doors_verdict.specs.Plain.{validator_of};
 ghost use Rattle.doors_verdict.specs.Replies.{checked, plain_checked};
 
-use crate::plain::{PlainValidator, plain_validator, validator_of};
+use crate::plain::PlainValidator;
 use doors_header_structs::plain::{BUFFER_TOO_SHORT, NO_REFUSAL, PlainHeader, header_of};
-use validators::{SanityCheck, Verdict};
+use validators::{RdhCruSanityValidator, SanityCheck, Verdict};
 
 pub mod plain;
 
 // The text's length, the verdict, and the validator for the next header.
 #[repr(C)]
-#[derive(Clone, Copy)]
+#[derive(Clone, Copy, Debug, PartialEq, Eq)]
 pub struct PlainChecked {
     pub length: usize,
     pub refusal: u32,
@@ -33,32 +33,25 @@ pub fn kesarimbu_check(
     ensures answer { result ≡ checked (validator_of validator) (header_of header) (length text.old) }
     ensures left { text.new ≡ overwritten (text_of (validator_of validator) (header_of header)) text.old }
 {
-    plain_checked(validator_of(validator).sanity_check(header_of(header), text))
+    let validator = RdhCruSanityValidator::from(validator);
+    PlainChecked::from(validator.sanity_check(header_of(header), text))
 }
 
-fn plain_checked(check: SanityCheck) -> PlainChecked
-    ensures { result ≡ plain_checked (verdict_answer check.verdict) check.validator }
-{
-    let validator = plain_validator(check.validator);
-    let verdict = check.verdict;
-    match verdict {
-        Verdict::Sound => PlainChecked {
-            length: 0,
-            refusal: NO_REFUSAL,
-            sound: true,
-            validator,
-        },
-        Verdict::NotSound(length) => PlainChecked {
+impl From<SanityCheck> for PlainChecked {
+    fn from(check: SanityCheck) -> PlainChecked
+        ensures { result ≡ plain_checked (verdict_answer check.verdict) check.validator }
+    {
+        let verdict = check.verdict;
+        let (length, refusal, sound) = match verdict {
+            Verdict::Sound => (0, NO_REFUSAL, true),
+            Verdict::NotSound(length) => (length, NO_REFUSAL, false),
+            Verdict::TooShort(length) => (length, BUFFER_TOO_SHORT, false),
+        };
+        PlainChecked {
             length,
-            refusal: NO_REFUSAL,
-            sound: false,
-            validator,
-        },
-        Verdict::TooShort(length) => PlainChecked {
-            length,
-            refusal: BUFFER_TOO_SHORT,
-            sound: false,
-            validator,
-        },
+            refusal,
+            sound,
+            validator: PlainValidator::from(check.validator),
+        }
     }
 }

@@ -6,7 +6,7 @@ use validators::{HeaderId, RdhCruSanityValidator};
 
 // The header ID is the configured one; or else the settled one; or else none.
 #[repr(C)]
-#[derive(Clone, Copy)]
+#[derive(Clone, Copy, Debug, PartialEq, Eq, Default)]
 pub struct PlainValidator {
     pub configured: bool,
     pub settled: bool,
@@ -14,12 +14,14 @@ pub struct PlainValidator {
     pub its: bool,
 }
 
-pub fn validator_of(n: PlainValidator) -> RdhCruSanityValidator
-    ensures { result ≡ validator_of n }
-{
-    RdhCruSanityValidator {
-        header_id: header_id(n.configured, n.settled, n.id),
-        its: n.its,
+impl From<PlainValidator> for RdhCruSanityValidator {
+    fn from(n: PlainValidator) -> RdhCruSanityValidator
+        ensures { result ≡ validator_of n }
+    {
+        RdhCruSanityValidator {
+            header_id: header_id(n.configured, n.settled, n.id),
+            its: n.its,
+        }
     }
 }
 
@@ -35,28 +37,27 @@ fn header_id(configured: bool, settled: bool, id: u8) -> HeaderId
     HeaderId::NotSettled
 }
 
-pub fn plain_validator(v: RdhCruSanityValidator) -> PlainValidator
-    ensures { result ≡ plain_validator v }
-{
-    let id = v.header_id;
-    match id {
-        HeaderId::Configured(n) => PlainValidator {
-            configured: true,
-            settled: false,
-            id: n,
+impl From<RdhCruSanityValidator> for PlainValidator {
+    fn from(v: RdhCruSanityValidator) -> PlainValidator
+        ensures { result ≡ plain_validator v }
+    {
+        let none = PlainValidator {
             its: v.its,
-        },
-        HeaderId::NotSettled => PlainValidator {
-            configured: false,
-            settled: false,
-            id: 0,
-            its: v.its,
-        },
-        HeaderId::Settled(n) => PlainValidator {
-            configured: false,
-            settled: true,
-            id: n,
-            its: v.its,
-        },
+            ..PlainValidator::default()
+        };
+        let header_id = v.header_id;
+        match header_id {
+            HeaderId::Configured(id) => PlainValidator {
+                configured: true,
+                id,
+                ..none
+            },
+            HeaderId::NotSettled => none,
+            HeaderId::Settled(id) => PlainValidator {
+                settled: true,
+                id,
+                ..none
+            },
+        }
     }
 }
