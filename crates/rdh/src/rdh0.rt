@@ -3,7 +3,7 @@ ghost use Rattle.std.specs.Prelude.{◌≡◌};
 ghost use Rattle.rdh.specs.Subfields.{layer_of, stave_of, uplink_of};
 
 // The FEE id, which packs the layer, the fibre uplink and the stave into 16 bits.
-#[derive(Clone, Copy)]
+#[derive(Clone, Copy, Debug, PartialEq, Eq)]
 pub struct FeeId(pub u16);
 
 impl FeeId {
@@ -28,7 +28,7 @@ impl FeeId {
     }
 }
 
-#[derive(Clone, Copy)]
+#[derive(Clone, Copy, Debug, PartialEq, Eq)]
 pub struct Rdh0 {
     pub header_id: u8,
     pub header_size: u8,

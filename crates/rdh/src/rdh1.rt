@@ -3,10 +3,10 @@ ghost use Rattle.std.specs.Prelude.{◌≡◌};
 ghost use Rattle.rdh.specs.Subfields.{bc_of, bc_reserved_of};
 
 // The bunch counter, 12 bits, and 20 reserved bits above it.
-#[derive(Clone, Copy)]
+#[derive(Clone, Copy, Debug, PartialEq, Eq)]
 pub struct BcReserved(pub u32);
 
-#[derive(Clone, Copy)]
+#[derive(Clone, Copy, Debug, PartialEq, Eq)]
 pub struct Rdh1 {
     pub bc_reserved0: BcReserved,
     pub orbit: u32,

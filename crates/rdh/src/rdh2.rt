@@ -2,7 +2,7 @@
 ghost use Rattle.std.specs.Prelude.{◌≡◌};
 ghost use Rattle.rdh.specs.Subfields.{is_pht_trigger_type};
 
-#[derive(Clone, Copy)]
+#[derive(Clone, Copy, Debug, PartialEq, Eq)]
 pub struct Rdh2 {
     pub trigger_type: u32,
     pub pages_counter: u16,

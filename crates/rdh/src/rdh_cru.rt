@@ -15,14 +15,14 @@ pub const RDH_CRU_SIZE_BYTES: usize = 64;
 pub const RDH_SIZE: u16 = RDH_CRU_SIZE_BYTES as u16;
 
 // The number of the common readout unit, 12 bits, and of its data wrapper (dw), 4 bits above it.
-#[derive(Clone, Copy)]
+#[derive(Clone, Copy, Debug, PartialEq, Eq)]
 pub struct CruidDw(pub u16);
 
 // The data format, 8 bits, and 56 reserved bits above it.
-#[derive(Clone, Copy)]
+#[derive(Clone, Copy, Debug, PartialEq, Eq)]
 pub struct DataformatReserved(pub u64);
 
-#[derive(Clone, Copy)]
+#[derive(Clone, Copy, Debug, PartialEq, Eq)]
 pub struct RdhCru {
     pub rdh0: Rdh0,
     pub offset_new_packet: u16,
@@ -56,13 +56,11 @@ impl RdhCru {
     {
         (self.dataformat_reserved0.0 % 256) as u8
     }
+
     // The length of the payload behind the header. A memory size below a header's length, which no packet has, has none.
     pub fn payload_size(self) -> u16
         ensures { result ≡ payload_size self }
     {
-        if self.memory_size < RDH_SIZE {
-            return 0;
-        }
-        self.memory_size - RDH_SIZE
+        self.memory_size.saturating_sub(RDH_SIZE)
     }
 }
