@@ -1,6 +1,6 @@
 -- Proof that a load tells all marks of its examinations: putting marks together goes over them one by one, and a header that is passed leaves
 -- the load open, so that no later one is a first.
-use Rattle.std.specs.Prelude.{ℕ, zero, suc, ◌+◌, ◌/◌, Bool, true, false, ◌||◌, ◌&&◌, List, [], ◌∷◌, ◌≡◌, refl, eqb, length, drop}
+use Rattle.std.specs.Prelude.{ℕ, zero, suc, ◌+◌, ◌/◌, Bool, true, false, ◌||◌, ◌&&◌, List, [], ◌∷◌, ◌≡◌, refl, eqb, length, drop, Option, None, Some}
 use Rattle.std.proofs.Math.Bool.{and-false, or_assoc, or-false}
 use Rattle.std.proofs.lemmas.Bool.{false≢true}
 use Rattle.std.proofs.Common.{true≢false, ap, sym, ◌∙◌, arith}
@@ -12,7 +12,6 @@ use Rattle.scan_cdp.specs.Loads.{Loaded, either_initial, is_passed, loaded, load
 use Rattle.scan_cdp.specs.Steps.{Entry, ended, entry_of, initial_of, is_first, marks_of, unchanged}
 use Rattle.scan_cdp.specs.Windows.{examined}
 use Rattle.scan_cdp.specs.declared.Initial.{Initial}
-use Rattle.scan_cdp.specs.declared.Initial.TheVariants as Report
 use Rattle.scan_cdp.specs.declared.LoadMarks.{LoadMarks}
 use Rattle.scan_cdp.specs.declared.Marks.{Marks}
 use Rattle.scan_cdp.specs.declared.Part.{Part}
@@ -61,21 +60,21 @@ load_replies (suc n) set ms x w first last is =
 
 -- ---- the marks are all of theirs
 
-pub no_initial : (i : Initial) → either_initial i Report.None ≡ i
-no_initial Report.None = refl
-no_initial (Report.Report trigger format system) = refl
+pub no_initial : (i : Option Initial) → either_initial i None ≡ i
+no_initial None = refl
+no_initial (Some initial) = refl
 
-initial_assoc : (i j k : Initial) → either_initial (either_initial i j) k ≡ either_initial i (either_initial j k)
-initial_assoc Report.None j k = refl
-initial_assoc (Report.Report trigger format system) j k = refl
+initial_assoc : (i j k : Option Initial) → either_initial (either_initial i j) k ≡ either_initial i (either_initial j k)
+initial_assoc None j k = refl
+initial_assoc (Some initial) j k = refl
 
 carry_assoc : (b : Bool) (n m : ℕ) → pick b (n + 1) n + m ≡ n + (pick b 1 0 + m)
 carry_assoc true n m = omega arith
 carry_assoc false n m = omega arith
 
 -- the first initial mark that any of them has
-unfoldable an_initial : List (Entry Part) → Initial
-an_initial [] = Report.None
+unfoldable an_initial : List (Entry Part) → Option Initial
+an_initial [] = None
 an_initial (e ∷ es) = either_initial e.marks.initial (an_initial es)
 
 abbrev added_to : LoadMarks → List (Entry Part) → LoadMarks
@@ -148,16 +147,16 @@ one_initial (suc n) set s fee_ids w first last =
     (λ passes. later_none n set e.state e.fee_ids w first last (examined_passed set s fee_ids w first last passes).later)
     (λ stops. refl)
 
-none_found : (es : List (Entry Part)) → NoneInitial es → an_initial es ≡ Report.None
+none_found : (es : List (Entry Part)) → NoneInitial es → an_initial es ≡ None
 unfolding an_initial any
 none_found [] none = refl
 none_found (e ∷ es) none =
     let (here, others) = neither (has_initial e.marks) (any has_initial es) none in
     (λ i. either_initial (is_none e.marks.initial here i) (an_initial es)) ∙ none_found es others
   where
-    is_none : (i : Initial) → is_initial i ≡ false → i ≡ Report.None
-    is_none Report.None e = refl
-    is_none (Report.Report trigger format system) e = absurd (true≢false e)
+    is_none : (i : Option Initial) → is_initial i ≡ false → i ≡ None
+    is_none None e = refl
+    is_none (Some initial) e = absurd (true≢false e)
 
 first_found : (es : List (Entry Part)) → NoneInitial (drop 1 es) → an_initial es ≡ first_initial es
 unfolding an_initial

@@ -1,5 +1,5 @@
 -- Laws of the load's loop: what holds at each turn, and that the load from there on answers as the whole load does.
-use Rattle.std.specs.Prelude.{ℕ, zero, suc, ◌+◌, ◌*◌, ◌/◌, ◌≤◌, ◌<◌, Bool, true, false, ◌||◌, ◌≡◌, refl, List, [], length, take}
+use Rattle.std.specs.Prelude.{ℕ, zero, suc, ◌+◌, ◌*◌, ◌/◌, ◌≤◌, ◌<◌, Bool, true, false, ◌||◌, ◌≡◌, refl, List, [], length, take, Result, Ok, Err}
 use Rattle.std.proofs.Math.Path.{ap}
 use Rattle.std.proofs.Common.{sym, subst, ◌∙◌, arith, add-one}
 use Rattle.basis.specs.Pick.{pick}
@@ -14,9 +14,9 @@ use Rattle.scan_cdp.specs.Windows.{examined, outside}
 use Rattle.scan_laws.proofs.WindowLaws.{refused_6}
 use Rattle.scan_cdp.specs.Answers.{load_answer}
 use Rattle.scan_cdp.specs.declared.LoadCdp.{LoadCdp}
-use Rattle.scan_cdp.specs.declared.LoadCdp.TheVariants.{Packet, Refused, Want}
+use Rattle.scan_cdp.specs.declared.LoadCdp.TheVariants.{Packet, Want}
 use Rattle.scan_cdp.specs.declared.LoadMarks.{LoadMarks}
-use Rattle.scan_cdp.specs.declared.Refusal.TheVariants.{End, FeeIdsFull, MemorySize, OffsetToNext, Unusable}
+use Rattle.scan_cdp.specs.declared.Refusal.{Refusal}
 use Rattle.scan_cdp.specs.declared.Marks.{Marks}
 use Rattle.scan_cdp.specs.declared.Part.{Part}
 use Rattle.scan_cdp.specs.declared.Settings.{Settings}
@@ -115,11 +115,7 @@ load_refused set s fee_ids w first last six =
     (replied no_load_marks x)) refused)
 
 -- What a load answers is never a passed header.
-pub not_passed : (a : LoadCdp) → is_passed (load_answer a) ≡ false
-not_passed (Packet packet) = refl
-not_passed (Want place size) = refl
-not_passed (Refused End) = refl
-not_passed (Refused (OffsetToNext distance position)) = refl
-not_passed (Refused MemorySize) = refl
-not_passed (Refused FeeIdsFull) = refl
-not_passed (Refused Unusable) = refl
+pub not_passed : (a : Result LoadCdp Refusal) → is_passed (load_answer a) ≡ false
+not_passed (Ok (Packet packet)) = refl
+not_passed (Ok (Want place size)) = refl
+not_passed (Err why) = refl

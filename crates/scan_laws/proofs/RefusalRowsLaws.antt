@@ -1,7 +1,7 @@
 -- Proofs of the rows of the table of refusals: which refusal is due follows from the outcome's order of tests, and what it leaves from the
 -- outcome's row.
 use Prim.Native.Nat.{ℕ, zero, suc, ◌+◌, ◌-◌, ◌/◌, ◌≤◌, ◌<◌}
-use Rattle.std.specs.Prelude.{Bool, ◌||◌, ◌&&◌, List, [], ◌≡◌, leb, ℤ, take}
+use Rattle.std.specs.Prelude.{Bool, ◌||◌, ◌&&◌, List, [], ◌≡◌, leb, ℤ, take, Option, None}
 use Rattle.std.proofs.Math.Bool.{true, false, not, and-false, and-true}
 use Rattle.std.proofs.lemmas.Bool.{false≢true}
 use Rattle.std.proofs.Common.{true≢false, ◌∙◌, le-ltb, leb-true, lt-ltb}
@@ -22,8 +22,6 @@ use Rattle.scan_cdp.specs.Steps.{Entry, answer_in, cut, ended, entry_at, entry_o
 use Rattle.scan_cdp.specs.Windows.{examined, located, placed}
 use Rattle.scan_cdp.specs.declared.LoadMarks.{LoadMarks}
 use Rattle.scan_cdp.specs.declared.Marks.{Marks}
-use Rattle.scan_cdp.specs.declared.OpenLoad.{OpenLoad}
-use Rattle.scan_cdp.specs.declared.OpenLoad.TheVariants as Load
 use Rattle.scan_cdp.specs.declared.Outcome.{Outcome}
 use Rattle.scan_cdp.specs.declared.Outcome.TheVariants.{FeeIdsFull, BadOffset, MemorySize, Passed, HandedOut}
 use Rattle.scan_cdp.specs.declared.Part.{Part}
@@ -146,7 +144,7 @@ answer_number f n HandedOut h payload from position other = sym other
 record Halts (t : Outcome) : Type 0 where
   place : (skip : Bool) (h : RdhCru) (place left end : ℕ) → place_after skip t h place left end ≡ place + 64
   position : (h : RdhCru) (position : ℕ) → position_after t h position ≡ position
-  load : (load : OpenLoad) (position : Position) → load_after t load position ≡ Load.None
+  load : (load : Option Position) (position : Position) → load_after t load position ≡ None
   none : hands_out t ≡ false
 
 halts_2 : Halts BadOffset

@@ -1,11 +1,10 @@
 -- The examinations of a load call, and the marks of all of them (L1, L2).
-use Rattle.std.specs.Prelude.{ℕ, zero, suc, ◌+◌, ◌/◌, Bool, true, false, ◌||◌, List, [], ◌∷◌, length}
+use Rattle.std.specs.Prelude.{ℕ, zero, suc, ◌+◌, ◌/◌, Bool, true, false, ◌||◌, List, [], ◌∷◌, length, Option, None, Some}
 use Rattle.basis.specs.Pick.{pick}
 use Rattle.scan_cdp.specs.Loads.{is_passed}
 use Rattle.scan_cdp.specs.Steps.{Entry}
 use Rattle.scan_cdp.specs.Windows.{examined}
 use Rattle.scan_cdp.specs.declared.Initial.{Initial}
-use Rattle.scan_cdp.specs.declared.Initial.TheVariants as Report
 use Rattle.scan_cdp.specs.declared.LoadMarks.{LoadMarks}
 use Rattle.scan_cdp.specs.declared.Marks.{Marks}
 use Rattle.scan_cdp.specs.declared.Part.{Part}
@@ -32,13 +31,13 @@ unfoldable pub any : (Marks → Bool) → List (Entry Part) → Bool
 any has [] = false
 any has (e ∷ es) = has e.marks || any has es
 
-abbrev pub is_initial : Initial → Bool
-is_initial Report.None = false
-is_initial (Report.Report trigger format system) = true
+abbrev pub is_initial : Option Initial → Bool
+is_initial None = false
+is_initial (Some initial) = true
 
 -- The initial mark of the first of them.
-abbrev pub first_initial : List (Entry Part) → Initial
-first_initial [] = Report.None
+abbrev pub first_initial : List (Entry Part) → Option Initial
+first_initial [] = None
 first_initial (e ∷ es) = e.marks.initial
 
 -- The marks of all of them (L2): the initial one of the first, how many carries of seen, and whether there was a carry of filtered, of payload,

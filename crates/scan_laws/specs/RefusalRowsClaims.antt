@@ -1,6 +1,6 @@
 -- The table of refusals of an examination, 1 to 4 and 6, a row for each (R1 to R4, R6, R10 to R12): when exactly it is due, what is returned with it, what
 -- is left, and which marks come with it (S9). No public contract cites this file: `RefusalRowsLaws` says that the definitions agree with it.
-use Rattle.std.specs.Prelude.{ℕ, ◌+◌, max, Bool, true, false, not, ◌||◌, ◌&&◌, List, [], ◌∷◌, ◌≡◌, eqb, ltb, ℤ, pos, length}
+use Rattle.std.specs.Prelude.{ℕ, ◌+◌, max, Bool, true, false, not, ◌||◌, ◌&&◌, List, [], ◌∷◌, ◌≡◌, eqb, ltb, ℤ, pos, length, None}
 use Rattle.basis.specs.Refusals.{Answer, gives, refuses}
 use Rattle.filter.specs.Filter.{enabled}
 use Rattle.rdh.specs.declared.rdh_cru.RdhCru.{RdhCru}
@@ -12,7 +12,6 @@ use Rattle.scan_cdp.specs.Outcomes.{bad_memory_size, bad_offset, header_fee_id, 
 use Rattle.scan_cdp.specs.Steps.{Entry, closed, initial_of, is_first, no_marks, places_listed, raised, triggers_after, unusable, used_listed, with_place}
 use Rattle.scan_cdp.specs.Windows.{examined, outside, shown}
 use Rattle.scan_cdp.specs.declared.Marks.{Marks}
-use Rattle.scan_cdp.specs.declared.OpenLoad.TheVariants as Load
 use Rattle.scan_cdp.specs.declared.Part.{Part}
 use Rattle.scan_cdp.specs.declared.Settings.{Settings}
 use Rattle.scan_cdp.specs.declared.State.{State}
@@ -46,7 +45,7 @@ behind_header counted listed taken s fee_ids h =
         progress = record {
           place = record { 0 = p.place.0 + 64 };
           position = p.position;
-          load = Load.None;
+          load = None;
           counts = record {
             seen = (raised counted p.counts.seen 1).value;
             filtered = (raised taken p.counts.filtered 1).value;
