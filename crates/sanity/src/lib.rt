@@ -13,7 +13,7 @@ pub mod rdh2;
 pub mod rdh3;
 
 // What a header is held to: its header ID, and whether its system id has to be that of the ITS.
-#[derive(Clone, Copy)]
+#[derive(Clone, Copy, Debug, PartialEq, Eq)]
 pub struct Criteria {
     pub header_id: u8,
     pub its: bool,

@@ -15,6 +15,7 @@ pub mod rdh2;
 pub mod rdh3;
 
 // Whether any test fails. No text is made.
+#[tactic(auto, using(crate::specs::TestsLaws::any_of_5_lists), unfolding(sanity::specs::Tests::all_tests))]
 pub fn fails(criteria: Criteria, rdh: RdhCru) -> bool
     ensures { result ≡ any_fails (all_tests criteria rdh) }
 {

@@ -7,6 +7,7 @@ use rdh::rdh0::Rdh0;
 use sanity::rdh0::{header_id_fails, header_size_fails, priority_bit_fails, system_id_fails};
 use sanity::{Criteria, reserved0_fails};
 
+#[tactic(auto, using(crate::specs::TestsLaws::any_of_6), unfolding(sanity::specs::Tests::rdh0_tests))]
 pub fn fails(criteria: Criteria, rdh0: Rdh0) -> bool
     ensures { result ≡ any_fails (rdh0_tests criteria rdh0) }
 {

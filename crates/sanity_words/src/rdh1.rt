@@ -6,6 +6,7 @@ use rdh::rdh1::Rdh1;
 use sanity::rdh1::bc_fails;
 use sanity::reserved0_fails;
 
+#[tactic(auto, using(crate::specs::TestsLaws::any_of_2), unfolding(sanity::specs::Tests::rdh1_tests))]
 pub fn fails(rdh1: Rdh1) -> bool
     ensures { result ≡ any_fails (rdh1_tests rdh1) }
 {

@@ -6,6 +6,7 @@ use rdh::rdh2::Rdh2;
 use sanity::rdh2::{stop_bit_fails, trigger_type_fails};
 use sanity::reserved0_fails;
 
+#[tactic(auto, using(crate::specs::TestsLaws::any_of_3), unfolding(sanity::specs::Tests::rdh2_tests))]
 pub fn fails(rdh2: Rdh2) -> bool
     ensures { result ≡ any_fails (rdh2_tests rdh2) }
 {

@@ -6,6 +6,7 @@ use rdh::rdh3::Rdh3;
 use sanity::rdh3::detector_field_fails;
 use sanity::reserved0_fails;
 
+#[tactic(auto, using(crate::specs::TestsLaws::any_of_2), unfolding(sanity::specs::Tests::rdh3_tests))]
 pub fn fails(rdh3: Rdh3) -> bool
     ensures { result ≡ any_fails (rdh3_tests rdh3) }
 {
