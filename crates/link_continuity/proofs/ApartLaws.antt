@@ -1,5 +1,5 @@
 -- Proof that each link is by itself: what its headers yield, and what it then keeps, is that of one link alone.
-use Rattle.std.specs.Prelude.{◌≡◌, ℕ, Bool, true, false, List, [], ◌∷◌, ◌++◌, ◌==◌, nat_eq, refl}
+use Rattle.std.specs.Prelude.{◌≡◌, ℕ, Bool, true, false, List, [], ◌∷◌, ◌++◌, ◌==◌, nat_eq, refl, Option}
 use Rattle.std.proofs.Common.{ap, ap₂, sym, ◌∙◌, eqb-true}
 use Rattle.basis.specs.Pick.{pick}
 use Rattle.basis.specs.PickLaws.{off, on}
@@ -8,16 +8,16 @@ use Rattle.link_continuity.specs.ContinuityClaims.{LastIsKept, LinksApart, OwnHe
 use Rattle.link_continuity.specs.Link.{keeps, yields}
 use Rattle.link_continuity.specs.Links.{Links, headers_on, links_after, links_after_all, yielded, yielded_on, yields_on}
 use Rattle.link_continuity.specs.declared.LinkCheck.{LinkCheck}
-use Rattle.link_continuity.specs.declared.LinkKept.{LinkKept}
+use Rattle.link_continuity.specs.declared.LastHeader.{LastHeader}
 
 -- ---- one link alone
 
 -- What headers yield on a link of which this is kept, and what it then keeps.
-abbrev pub alone : LinkKept → List RdhCru → List LinkCheck
+abbrev pub alone : Option LastHeader → List RdhCru → List LinkCheck
 alone kept [] = []
 alone kept (h ∷ hs) = yields kept h ∷ alone (keeps h) hs
 
-abbrev pub kept_alone : LinkKept → List RdhCru → LinkKept
+abbrev pub kept_alone : Option LastHeader → List RdhCru → Option LastHeader
 kept_alone kept [] = kept
 kept_alone kept (h ∷ hs) = kept_alone (keeps h) hs
 
@@ -48,8 +48,8 @@ yields_alone link links (h ∷ hs) = met (yields_alone link (links_after links h
         → pick b (yields_on links h ∷ []) [] ++ yielded_on link (links_after links h) hs ≡ alone (links link) (pick b (h ∷ []) [] ++ headers_on link hs)
     met after true own =
         ap₂ (λ (c : LinkCheck) (cs : List LinkCheck). c ∷ cs) (own_yields link links h own)
-        (after ∙ ap (λ (k : LinkKept). alone k (headers_on link hs)) (renewed link links h own))
-    met after false other = after ∙ ap (λ (k : LinkKept). alone k (headers_on link hs)) (untouched link links h other)
+        (after ∙ ap (λ (k : Option LastHeader). alone k (headers_on link hs)) (renewed link links h own))
+    met after false other = after ∙ ap (λ (k : Option LastHeader). alone k (headers_on link hs)) (untouched link links h other)
 
 -- and leave what they leave there
 pub keeps_alone : (link : ℕ) (links : Links) (hs : List RdhCru) → links_after_all links hs link ≡ kept_alone (links link) (headers_on link hs)
@@ -60,8 +60,8 @@ keeps_alone link links (h ∷ hs) = met (keeps_alone link (links_after links h) 
     met : links_after_all (links_after links h) hs link ≡ kept_alone (links_after links h link) (headers_on link hs) → (b : Bool)
         → (h.link_id == link) ≡ b
         → links_after_all (links_after links h) hs link ≡ kept_alone (links link) (pick b (h ∷ []) [] ++ headers_on link hs)
-    met after true own = after ∙ ap (λ (k : LinkKept). kept_alone k (headers_on link hs)) (renewed link links h own)
-    met after false other = after ∙ ap (λ (k : LinkKept). kept_alone k (headers_on link hs)) (untouched link links h other)
+    met after true own = after ∙ ap (λ (k : Option LastHeader). kept_alone k (headers_on link hs)) (renewed link links h own)
+    met after false other = after ∙ ap (λ (k : Option LastHeader). kept_alone k (headers_on link hs)) (untouched link links h other)
 
 -- ---- without the others
 
@@ -75,7 +75,7 @@ own_alone link links (h ∷ hs) = met (λ (now : Links). own_alone link now hs) 
         → yielded links (pick b (h ∷ []) [] ++ headers_on link hs) ≡ alone (links link) (pick b (h ∷ []) [] ++ headers_on link hs)
     met from true own =
         ap₂ (λ (c : LinkCheck) (cs : List LinkCheck). c ∷ cs) (own_yields link links h own)
-        (from (links_after links h) ∙ ap (λ (k : LinkKept). alone k (headers_on link hs)) (renewed link links h own))
+        (from (links_after links h) ∙ ap (λ (k : Option LastHeader). alone k (headers_on link hs)) (renewed link links h own))
     met from false other = from links
 
 -- a link's headers picked out once more are the same
@@ -94,10 +94,10 @@ pub links_apart : LinksApart
 links_apart link links others headers same =
     record {
       yields = yields_alone link links headers
-          ∙ ap (λ (k : LinkKept). alone k (headers_on link headers)) same
+          ∙ ap (λ (k : Option LastHeader). alone k (headers_on link headers)) same
           ∙ sym (own_alone link others headers);
       keeps = keeps_alone link links headers
-          ∙ ap (λ (k : LinkKept). kept_alone k (headers_on link headers)) same
+          ∙ ap (λ (k : Option LastHeader). kept_alone k (headers_on link headers)) same
           ∙ sym (keeps_alone link others (headers_on link headers) ∙ ap (kept_alone (others link)) (own_again link headers));
     }
 
@@ -109,7 +109,7 @@ own_headers_alone link links others headers headers' same own =
     }
 
 -- the last of a list is what is kept after it
-pub keeps_the_last : (kept : LinkKept) (earlier : List RdhCru) (h : RdhCru) → kept_alone kept (earlier ++ (h ∷ [])) ≡ keeps h
+pub keeps_the_last : (kept : Option LastHeader) (earlier : List RdhCru) (h : RdhCru) → kept_alone kept (earlier ++ (h ∷ [])) ≡ keeps h
 keeps_the_last kept [] h = refl
 keeps_the_last kept (e ∷ es) h = keeps_the_last (keeps e) es h
 

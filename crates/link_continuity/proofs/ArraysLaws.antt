@@ -1,11 +1,10 @@
 -- Proof that calls on the lent arrays follow the definition of all links: a header is written where its link's entries are read, and nowhere else.
-use Rattle.std.specs.Prelude.{◌≡◌, ℕ, ◌<◌, Bool, true, false, List, [], ◌∷◌, length, ◌==◌}
+use Rattle.std.specs.Prelude.{◌≡◌, ℕ, Bool, true, false, List, [], ◌∷◌, ◌==◌}
 use Rattle.std.proofs.Math.Path.{refl, sym, subst}
 use Rattle.std.proofs.Common.{ap, ◌∙◌, arith}
 use borrow.Author.Tests.{eqb-false, eqb-true}
 use Rattle.std.proofs.Math.ListN.{length-set}
 use Rattle.std.proofs.Math.Seq.{get_or-set_other, get_or-set_same}
-use Rattle.basis.specs.Each.{Each}
 use Rattle.basis.specs.PickLaws.{off, on}
 use Rattle.rdh.specs.declared.rdh_cru.RdhCru.{RdhCru}
 use Rattle.link_continuity.specs.Arrays.{LinkArrays, arrays_after, kept_of, links_of}
@@ -13,7 +12,6 @@ use Rattle.link_continuity.specs.ArraysClaims.{CallsAsDefined, ForAllLinks, OnAL
 use Rattle.link_continuity.specs.Link.{keeps}
 use Rattle.link_continuity.specs.Links.{Links, links_after, links_after_all, yielded, yields_on}
 use Rattle.link_continuity.specs.declared.LinkCheck.{LinkCheck}
-use Rattle.link_continuity.specs.declared.LinkKept.{LinkKept}
 
 module _ (a : LinkArrays) (h : RdhCru) where
   -- the arrays are as long as before

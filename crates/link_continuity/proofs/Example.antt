@@ -1,6 +1,6 @@
 -- Examples, which no public contract cites: what a header yields behind another one, at every wrap and at every stop, computed; and two links in
 -- turns, of which one lost a packet, computed and by the laws.
-use Rattle.std.specs.Prelude.{◌≡◌, ℕ, Bool, true, false, List, [], ◌∷◌, map, refl}
+use Rattle.std.specs.Prelude.{◌≡◌, ℕ, Bool, true, false, List, [], ◌∷◌, map, refl, Some, None}
 use Rattle.std.proofs.Common.{ap}
 use Rattle.rdh.specs.declared.rdh_cru.RdhCru.{RdhCru}
 use Rattle.link_continuity.proofs.ApartLaws.{links_apart}
@@ -10,7 +10,6 @@ use Rattle.link_continuity.specs.Link.{behind, no_flag, yields}
 use Rattle.link_continuity.specs.Links.{Links, headers_on, links_after, links_after_all, yielded, yielded_on}
 use Rattle.link_continuity.specs.declared.LastHeader.{LastHeader}
 use Rattle.link_continuity.specs.declared.LinkCheck.{LinkCheck}
-use Rattle.link_continuity.specs.declared.LinkKept.TheVariants.{Last, Nothing}
 
 -- ---- two headers
 
@@ -102,7 +101,7 @@ abbrev pub turns : List RdhCru
 turns = on 1 (header 7 0 9 0) ∷ before ∷ on 1 (header 8 1 9 1) ∷ next ∷ on 1 (header 9 0 10 0) ∷ []
 
 abbrev nothing_kept : Links
-nothing_kept link = Nothing
+nothing_kept link = None
 
 -- What all five yield, and the two of link 2 among them; and what is kept then of link 1 and, with no header on it, of link 3.
 pub all_yield : yielded nothing_kept turns ≡ no_flag ∷ no_flag ∷ no_flag ∷ flags true true false 1 ∷ no_flag ∷ []
@@ -113,7 +112,7 @@ pub link_2_yields : yielded_on 2 nothing_kept turns ≡ no_flag ∷ flags true t
 unfolding yielded_on yields behind links_after
 link_2_yields = refl
 
-pub then_kept : (links_after_all nothing_kept turns 1 ≡ Last (header 9 0 10 0)) × (links_after_all nothing_kept turns 3 ≡ Nothing)
+pub then_kept : (links_after_all nothing_kept turns 1 ≡ Some (header 9 0 10 0)) × (links_after_all nothing_kept turns 3 ≡ None)
 unfolding links_after_all links_after
 then_kept = (refl, refl)
 

@@ -1,21 +1,18 @@
 -- Proof that a link has no flag exactly if its headers are in order, and that packets which were lost are told at the header behind them.
-use Rattle.std.specs.Prelude.{◌≡◌, ℕ, ◌+◌, ◌-◌, ◌%◌, ◌<◌, Bool, true, false, not, ◌&&◌, List, [], ◌∷◌, ◌++◌, map, length, replicate, ◌==◌, ◌≢◌}
+use Rattle.std.specs.Prelude.{◌≡◌, ℕ, ◌+◌, ◌-◌, ◌%◌, ◌<◌, Bool, true, false, not, ◌&&◌, List, [], ◌∷◌, ◌++◌, map, length, replicate, ◌==◌, ◌≢◌, Option, Some, None}
 use Rattle.std.proofs.Math.Path.{refl, ap}
 use Rattle.std.proofs.Common.{ap₂, sym, subst, ◌∙◌, arith, eq-eqb, eqb-true, ne_eqb}
 use Rattle.std.proofs.lemmas.Bool.{eqb-false, not-false}
 use Rattle.basis.specs.Each.{Each}
-use Rattle.basis.specs.Pick.{pick}
 use Rattle.basis.specs.PickLaws.{neither, off, on}
 use Rattle.rdh.specs.declared.rdh_cru.RdhCru.{RdhCru}
 use Rattle.link_continuity.proofs.ApartLaws.{alone, kept_alone, yields_alone}
-use Rattle.link_continuity.specs.ContinuityClaims.{InOrder, Lost, LostTold, OneLostTold, OnwardFrom, RunsOn, ToldOnce, UnflaggedIfInOrder, flagged, in_turn}
-use Rattle.link_continuity.specs.Link.{behind, keeps, last_of, next_packet_counter, next_pages_counter, no_flag, stops, yields}
+use Rattle.link_continuity.specs.ContinuityClaims.{InOrder, LostTold, OneLostTold, OnwardFrom, RunsOn, UnflaggedIfInOrder, flagged, in_turn}
+use Rattle.link_continuity.specs.Link.{behind, keeps, last_of, next_packet_counter, next_pages_counter, no_flag, yields}
 use Rattle.link_continuity.proofs.LinkLaws.{same_test}
-use Rattle.link_continuity.specs.Links.{headers_on, yielded_on}
+use Rattle.link_continuity.specs.Links.{headers_on}
 use Rattle.link_continuity.specs.declared.LastHeader.{LastHeader}
 use Rattle.link_continuity.specs.declared.LinkCheck.{LinkCheck}
-use Rattle.link_continuity.specs.declared.LinkKept.{LinkKept}
-use Rattle.link_continuity.specs.declared.LinkKept.TheVariants.{Last, Nothing}
 
 -- ---- two headers
 
@@ -80,50 +77,50 @@ module _ (l h : LastHeader) where
 -- ---- the headers of one link
 
 -- A header runs on behind what is kept, if anything is; and so do the headers behind it.
-abbrev Next : LinkKept → RdhCru → Type 0
-Next Nothing h = Unit {0}
-Next (Last l) h = RunsOn l (last_of h)
+abbrev Next : Option LastHeader → RdhCru → Type 0
+Next None h = Unit {0}
+Next (Some l) h = RunsOn l (last_of h)
 
-abbrev Runs : LinkKept → List RdhCru → Type 0
+abbrev Runs : Option LastHeader → List RdhCru → Type 0
 Runs kept [] = Unit {0}
 Runs kept (h ∷ hs) = Next kept h × Runs (keeps h) hs
 
-runs_behind : (l : LastHeader) (hs : List RdhCru) → OnwardFrom RunsOn l (map last_of hs) → Runs (Last l) hs
+runs_behind : (l : LastHeader) (hs : List RdhCru) → OnwardFrom RunsOn l (map last_of hs) → Runs (Some l) hs
 runs_behind l [] q = q
 runs_behind l (h ∷ hs) (r, q) = (r, runs_behind (last_of h) hs q)
 
-behind_runs : (l : LastHeader) (hs : List RdhCru) → Runs (Last l) hs → OnwardFrom RunsOn l (map last_of hs)
+behind_runs : (l : LastHeader) (hs : List RdhCru) → Runs (Some l) hs → OnwardFrom RunsOn l (map last_of hs)
 behind_runs l [] q = q
 behind_runs l (h ∷ hs) (r, q) = (r, behind_runs (last_of h) hs q)
 
 -- They are in order, and the other way round.
-in_order_runs : (kept : LinkKept) (hs : List RdhCru) → InOrder kept hs → Runs kept hs
-in_order_runs Nothing [] q = q
-in_order_runs Nothing (h ∷ hs) q = (tt, runs_behind (last_of h) hs q)
-in_order_runs (Last l) hs q = runs_behind l hs q
+in_order_runs : (kept : Option LastHeader) (hs : List RdhCru) → InOrder kept hs → Runs kept hs
+in_order_runs None [] q = q
+in_order_runs None (h ∷ hs) q = (tt, runs_behind (last_of h) hs q)
+in_order_runs (Some l) hs q = runs_behind l hs q
 
-runs_in_order : (kept : LinkKept) (hs : List RdhCru) → Runs kept hs → InOrder kept hs
-runs_in_order Nothing [] q = q
-runs_in_order Nothing (h ∷ hs) (r, q) = behind_runs (last_of h) hs q
-runs_in_order (Last l) hs q = behind_runs l hs q
+runs_in_order : (kept : Option LastHeader) (hs : List RdhCru) → Runs kept hs → InOrder kept hs
+runs_in_order None [] q = q
+runs_in_order None (h ∷ hs) (r, q) = behind_runs (last_of h) hs q
+runs_in_order (Some l) hs q = behind_runs l hs q
 
 -- A header that runs on yields no flag, and the other way round.
-next_unflagged : (kept : LinkKept) (h : RdhCru) → Next kept h → yields kept h ≡ no_flag
+next_unflagged : (kept : Option LastHeader) (h : RdhCru) → Next kept h → yields kept h ≡ no_flag
 unfolding yields
-next_unflagged Nothing h r = refl
-next_unflagged (Last l) h r = unflagged_on l (last_of h) r
+next_unflagged None h r = refl
+next_unflagged (Some l) h r = unflagged_on l (last_of h) r
 
-unflagged_next : (kept : LinkKept) (h : RdhCru) → flagged (yields kept h) ≡ false → Next kept h
+unflagged_next : (kept : Option LastHeader) (h : RdhCru) → flagged (yields kept h) ≡ false → Next kept h
 unfolding yields
-unflagged_next Nothing h low = tt
-unflagged_next (Last l) h low = on_unflagged l (last_of h) low
+unflagged_next None h low = tt
+unflagged_next (Some l) h low = on_unflagged l (last_of h) low
 
-runs_unflagged : (kept : LinkKept) (hs : List RdhCru) → Runs kept hs → alone kept hs ≡ replicate (length hs) no_flag
+runs_unflagged : (kept : Option LastHeader) (hs : List RdhCru) → Runs kept hs → alone kept hs ≡ replicate (length hs) no_flag
 runs_unflagged kept [] q = refl
 runs_unflagged kept (h ∷ hs) (r, q) =
     ap₂ (λ (c : LinkCheck) (cs : List LinkCheck). c ∷ cs) (next_unflagged kept h r) (runs_unflagged (keeps h) hs q)
 
-unflagged_runs : (kept : LinkKept) (hs : List RdhCru) → Each (λ (c : LinkCheck). flagged c ≡ false) (alone kept hs) → Runs kept hs
+unflagged_runs : (kept : Option LastHeader) (hs : List RdhCru) → Each (λ (c : LinkCheck). flagged c ≡ false) (alone kept hs) → Runs kept hs
 unflagged_runs kept [] q = q
 unflagged_runs kept (h ∷ hs) (low, q) = (unflagged_next kept h low, unflagged_runs (keeps h) hs q)
 
@@ -141,33 +138,33 @@ unflagged_if_in_order link links headers =
 -- ---- lost packets
 
 -- Headers before others: what both yield, and that both run on.
-alone_both : (kept : LinkKept) (earlier rest : List RdhCru) → alone kept (earlier ++ rest) ≡ alone kept earlier ++ alone (kept_alone kept earlier) rest
+alone_both : (kept : Option LastHeader) (earlier rest : List RdhCru) → alone kept (earlier ++ rest) ≡ alone kept earlier ++ alone (kept_alone kept earlier) rest
 alone_both kept [] rest = refl
 alone_both kept (e ∷ es) rest = ap (λ (cs : List LinkCheck). yields kept e ∷ cs) (alone_both (keeps e) es rest)
 
-runs_both : (kept : LinkKept) (earlier rest : List RdhCru) → Runs kept (earlier ++ rest) → Runs kept earlier × Runs (kept_alone kept earlier) rest
+runs_both : (kept : Option LastHeader) (earlier rest : List RdhCru) → Runs kept (earlier ++ rest) → Runs kept earlier × Runs (kept_alone kept earlier) rest
 runs_both kept [] rest q = (tt, q)
 runs_both kept (e ∷ es) rest (r, q) = let (es-run, rest-runs) = runs_both (keeps e) es rest q in ((r, es-run), rest-runs)
 
 -- What is kept after headers is the last of all values in their turn.
-abbrev lastly : LinkKept → List LastHeader → LinkKept
+abbrev lastly : Option LastHeader → List LastHeader → Option LastHeader
 lastly kept [] = kept
-lastly kept (l ∷ ls) = lastly (Last l) ls
+lastly kept (l ∷ ls) = lastly (Some l) ls
 
-kept-lastly : (kept : LinkKept) (hs : List RdhCru) → kept_alone kept hs ≡ lastly kept (map last_of hs)
+kept-lastly : (kept : Option LastHeader) (hs : List RdhCru) → kept_alone kept hs ≡ lastly kept (map last_of hs)
 kept-lastly kept [] = refl
 kept-lastly kept (h ∷ hs) = kept-lastly (keeps h) hs
 
-turn_lastly : (kept : LinkKept) (hs : List RdhCru) → lastly kept (map last_of hs) ≡ lastly Nothing (in_turn kept hs)
-turn_lastly Nothing hs = refl
-turn_lastly (Last l) hs = refl
+turn_lastly : (kept : Option LastHeader) (hs : List RdhCru) → lastly kept (map last_of hs) ≡ lastly None (in_turn kept hs)
+turn_lastly None hs = refl
+turn_lastly (Some l) hs = refl
 
-lastly_one : (kept : LinkKept) (before : List LastHeader) (one : LastHeader) → lastly kept (before ++ (one ∷ [])) ≡ Last one
+lastly_one : (kept : Option LastHeader) (before : List LastHeader) (one : LastHeader) → lastly kept (before ++ (one ∷ [])) ≡ Some one
 lastly_one kept [] one = refl
-lastly_one kept (b ∷ bs) one = lastly_one (Last b) bs one
+lastly_one kept (b ∷ bs) one = lastly_one (Some b) bs one
 
 -- The packet counter behind headers that run on.
-counter_behind : (l : LastHeader) (lost : List RdhCru) (h : RdhCru) (later : List RdhCru) → Runs (Last l) (lost ++ (h ∷ later))
+counter_behind : (l : LastHeader) (lost : List RdhCru) (h : RdhCru) (later : List RdhCru) → Runs (Some l) (lost ++ (h ∷ later))
     → h.packet_counter ≡ (l.packet_counter + (length lost + 1)) % 256
 counter_behind l [] h later (r, q) = omega (arith, r.packet)
 counter_behind l (x ∷ xs) h later (r, q) =
@@ -192,18 +189,18 @@ lost_told link links headers earlier lost h later gone =
     let kept = links link in
     let one = gone.one in
     let (earlier-run, rest-run) = runs_both kept earlier (lost ++ (h ∷ later)) (in_order_runs kept (earlier ++ (lost ++ (h ∷ later))) gone.in_order) in
-    let before : kept_alone kept earlier ≡ Last one =
-    kept-lastly kept earlier ∙ turn_lastly kept earlier ∙ ap (lastly Nothing) gone.one_before ∙ lastly_one Nothing gone.before one in
-    let behind-one : Runs (Last one) (lost ++ (h ∷ later)) = subst (λ (k : LinkKept). Runs k (lost ++ (h ∷ later))) before rest-run in
+    let before : kept_alone kept earlier ≡ Some one =
+    kept-lastly kept earlier ∙ turn_lastly kept earlier ∙ ap (lastly None) gone.one_before ∙ lastly_one None gone.before one in
+    let behind-one : Runs (Some one) (lost ++ (h ∷ later)) = subst (λ (k : Option LastHeader). Runs k (lost ++ (h ∷ later))) before rest-run in
     let counter = counter_behind one lost h later behind-one in
-    let later-run : Runs (keeps h) later = (runs_both (Last one) lost (h ∷ later) behind-one).1.1 in
+    let later-run : Runs (keeps h) later = (runs_both (Some one) lost (h ∷ later) behind-one).1.1 in
     record {
       check = behind one (last_of h);
       all = yields_alone link links headers
           ∙ ap (alone kept) gone.left
           ∙ alone_both kept earlier (h ∷ later)
           ∙ ap₂ (λ (cs ds : List LinkCheck). cs ++ ds) (runs_unflagged kept earlier earlier-run)
-          (ap (λ (k : LinkKept). alone k (h ∷ later)) before
+          (ap (λ (k : Option LastHeader). alone k (h ∷ later)) before
           ∙ ap (λ (cs : List LinkCheck). behind one (last_of h) ∷ cs) (runs_unflagged (keeps h) later later-run));
       flags = flag_behind one (last_of h) (length lost) counter;
       far = far_behind one (last_of h) (length lost) counter;

@@ -1,11 +1,9 @@
 -- What the five arrays say that are lent for the links, and what a header leaves in them (M1).
-use Rattle.std.specs.Prelude.{ℕ, List, ◌==◌, slice_index, slice_set}
+use Rattle.std.specs.Prelude.{ℕ, List, ◌==◌, slice_index, slice_set, Option, Some, None}
 use Rattle.basis.specs.Pick.{pick}
 use Rattle.rdh.specs.declared.rdh_cru.RdhCru.{RdhCru}
 use Rattle.link_continuity.specs.Links.{Links}
 use Rattle.link_continuity.specs.declared.LastHeader.{LastHeader}
-use Rattle.link_continuity.specs.declared.LinkKept.{LinkKept}
-use Rattle.link_continuity.specs.declared.LinkKept.TheVariants.{Last, Nothing}
 
 -- Each array has an entry for each link.
 pub record LinkArrays : Type 0 where
@@ -20,8 +18,8 @@ arrays seen packet_counters pages_counters orbits stop_bits =
     record { seen = seen; packet_counters = packet_counters; pages_counters = pages_counters; orbits = orbits; stop_bits = stop_bits }
 
 -- Where the first array has 0, nothing is kept of the link.
-unfoldable pub kept_of : ℕ → LastHeader → LinkKept
-kept_of seen l = pick (seen == 0) Nothing (Last l)
+unfoldable pub kept_of : ℕ → LastHeader → Option LastHeader
+kept_of seen l = pick (seen == 0) None (Some l)
 
 -- What they say of each link.
 abbrev pub links_of : LinkArrays → Links

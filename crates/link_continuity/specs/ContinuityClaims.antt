@@ -1,14 +1,12 @@
 -- The statements on the links' packets: each link by itself (M5), what it keeps (M6), when it has no flag (M7), and what is told of packets
 -- that were lost (M8).
-use Rattle.std.specs.Prelude.{◌≡◌, ℕ, ◌+◌, ◌%◌, ◌<◌, Bool, true, false, not, ◌||◌, List, [], ◌∷◌, ◌++◌, map, length, replicate, ◌==◌}
+use Rattle.std.specs.Prelude.{◌≡◌, ℕ, ◌+◌, ◌%◌, ◌<◌, Bool, true, false, not, ◌||◌, List, [], ◌∷◌, ◌++◌, map, length, replicate, ◌==◌, Option, Some, None}
 use Rattle.basis.specs.Each.{Each}
 use Rattle.rdh.specs.declared.rdh_cru.RdhCru.{RdhCru}
 use Rattle.link_continuity.specs.Link.{keeps, last_of, no_flag}
 use Rattle.link_continuity.specs.Links.{Links, headers_on, links_after_all, yielded, yielded_on}
 use Rattle.link_continuity.specs.declared.LastHeader.{LastHeader}
 use Rattle.link_continuity.specs.declared.LinkCheck.{LinkCheck}
-use Rattle.link_continuity.specs.declared.LinkKept.{LinkKept}
-use Rattle.link_continuity.specs.declared.LinkKept.TheVariants.{Last, Nothing}
 
 -- ---- each link by itself
 
@@ -58,15 +56,15 @@ Neighbours R [] = Unit {0}
 Neighbours R (x ∷ xs) = OnwardFrom R x xs
 
 -- The values of a link's headers in their order, with those that are kept, if any, before the first.
-abbrev pub kept_first : LinkKept → List LastHeader
-kept_first Nothing = []
-kept_first (Last l) = l ∷ []
+abbrev pub kept_first : Option LastHeader → List LastHeader
+kept_first None = []
+kept_first (Some l) = l ∷ []
 
-abbrev pub in_turn : LinkKept → List RdhCru → List LastHeader
+abbrev pub in_turn : Option LastHeader → List RdhCru → List LastHeader
 in_turn kept headers = kept_first kept ++ map last_of headers
 
 -- They run on, each behind the one before it.
-abbrev pub InOrder : LinkKept → List RdhCru → Type 0
+abbrev pub InOrder : Option LastHeader → List RdhCru → Type 0
 InOrder kept headers = Neighbours RunsOn (in_turn kept headers)
 
 -- Whether a header has any flag.

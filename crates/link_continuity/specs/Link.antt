@@ -1,11 +1,9 @@
 -- One link: what it keeps of its last header, and what the next header on it yields (M1 to M4).
-use Rattle.std.specs.Prelude.{ℕ, ◌+◌, ◌-◌, ◌%◌, Bool, false, not, ◌&&◌, ◌==◌}
+use Rattle.std.specs.Prelude.{ℕ, ◌+◌, ◌-◌, ◌%◌, Bool, false, not, ◌&&◌, ◌==◌, Option, Some, None}
 use Rattle.basis.specs.Pick.{pick}
 use Rattle.rdh.specs.declared.rdh_cru.RdhCru.{RdhCru}
 use Rattle.link_continuity.specs.declared.LastHeader.{LastHeader}
 use Rattle.link_continuity.specs.declared.LinkCheck.{LinkCheck}
-use Rattle.link_continuity.specs.declared.LinkKept.{LinkKept}
-use Rattle.link_continuity.specs.declared.LinkKept.TheVariants.{Last, Nothing}
 
 -- ---- what is kept
 
@@ -20,8 +18,8 @@ last_of h =
     }
 
 -- A header that is put becomes the last one of its link, whatever was kept (M1).
-abbrev pub keeps : RdhCru → LinkKept
-keeps h = Last (last_of h)
+abbrev pub keeps : RdhCru → Option LastHeader
+keeps h = Some (last_of h)
 
 -- ---- what must follow
 
@@ -55,6 +53,6 @@ abbrev pub no_flag : LinkCheck
 no_flag = record { packet_counter = false; pages_counter = false; orbit = false; distance = 0 }
 
 -- The first header on a link is taken as it comes (M4).
-unfoldable pub yields : LinkKept → RdhCru → LinkCheck
-yields Nothing h = no_flag
-yields (Last l) h = behind l (last_of h)
+unfoldable pub yields : Option LastHeader → RdhCru → LinkCheck
+yields None h = no_flag
+yields (Some l) h = behind l (last_of h)

@@ -1,14 +1,14 @@
 -- All links: what they keep, what a header yields on its own, and lists of headers (M1, M5).
-use Rattle.std.specs.Prelude.{ℕ, List, [], ◌∷◌, ◌++◌, ◌==◌}
+use Rattle.std.specs.Prelude.{ℕ, List, [], ◌∷◌, ◌++◌, ◌==◌, Option}
 use Rattle.basis.specs.Pick.{pick}
 use Rattle.rdh.specs.declared.rdh_cru.RdhCru.{RdhCru}
 use Rattle.link_continuity.specs.Link.{keeps, yields}
 use Rattle.link_continuity.specs.declared.LinkCheck.{LinkCheck}
-use Rattle.link_continuity.specs.declared.LinkKept.{LinkKept}
+use Rattle.link_continuity.specs.declared.LastHeader.{LastHeader}
 
 -- What is kept of each link, by its number.
 abbrev pub Links : Type 0
-Links = ℕ → LinkKept
+Links = ℕ → Option LastHeader
 
 -- ---- one header
 

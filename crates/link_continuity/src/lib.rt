@@ -12,8 +12,8 @@ use rdh::rdh_cru::RdhCru;
 // How many links there are: a link's number is a byte.
 pub const LINKS: usize = 256;
 
-// What is kept of the last header that was put on a link.
-#[derive(Clone, Copy)]
+// What is kept of the last header that was put on a link. Of a link with no header yet, nothing is: what is kept of a link is an Option of this.
+#[derive(Clone, Copy, Debug, PartialEq, Eq)]
 pub struct LastHeader {
     pub packet_counter: u8,
     pub pages_counter: u16,
@@ -21,16 +21,9 @@ pub struct LastHeader {
     pub stop_bit: u8,
 }
 
-// What is kept of a link: nothing before its first header.
-#[derive(Clone, Copy)]
-pub enum LinkKept {
-    Nothing,
-    Last(LastHeader),
-}
-
 // What a header yields: a flag for each field that is not as it must be behind the last header, and how far its packet counter is ahead of the
 // expected one, modulo 256.
-#[derive(Clone, Copy)]
+#[derive(Clone, Copy, Debug, Default, PartialEq, Eq)]
 pub struct LinkCheck {
     pub packet_counter: bool,
     pub pages_counter: bool,
@@ -39,86 +32,82 @@ pub struct LinkCheck {
 }
 
 // What a header leaves to be kept.
-fn last_of(rdh: RdhCru) -> LastHeader
-    ensures { result ≡ last_of rdh }
-{
-    LastHeader {
-        packet_counter: rdh.packet_counter,
-        pages_counter: rdh.rdh2.pages_counter,
-        orbit: rdh.rdh1.orbit,
-        stop_bit: rdh.rdh2.stop_bit,
+impl From<RdhCru> for LastHeader {
+    fn from(rdh: RdhCru) -> LastHeader
+        ensures { result ≡ last_of rdh }
+    {
+        LastHeader {
+            packet_counter: rdh.packet_counter,
+            pages_counter: rdh.rdh2.pages_counter,
+            orbit: rdh.rdh1.orbit,
+            stop_bit: rdh.rdh2.stop_bit,
+        }
     }
 }
 
-// Whether a header was a stop: any stop bit but 0 is one.
-fn is_stop(last: LastHeader) -> bool
-    ensures { result ≡ stops last }
-{
-    last.stop_bit != 0
-}
-
-// The packet counter that must come behind the last header: 0 behind 255.
-fn next_packet_counter(last: LastHeader) -> u8
-    ensures { result ≡ next_packet_counter last }
-{
-    std::num::wrapping_add_u8(last.packet_counter, 1)
-}
-
-// The pages counter that must come behind the last header: 0 behind 65,535, and behind a stop.
-fn next_pages_counter(last: LastHeader) -> u16
-    ensures { result ≡ next_pages_counter last }
-{
-    let next = std::num::wrapping_add_u16(last.pages_counter, 1);
-    if is_stop(last) {
-        return 0;
+impl LastHeader {
+    // Whether the header was a stop: any stop bit but 0 is one.
+    fn is_stop(self) -> bool
+        ensures { result ≡ stops self }
+    {
+        self.stop_bit != 0
     }
-    next
-}
 
-// What the values of a header yield behind those of the last one.
-fn check_behind(last: LastHeader, new: LastHeader) -> LinkCheck
-    ensures { result ≡ behind last new }
-{
-    let packet_counter = next_packet_counter(last);
-    let pages_counter = next_pages_counter(last);
-    let stopped = is_stop(last);
-    let distance = std::num::wrapping_sub_u8(new.packet_counter, packet_counter);
-    LinkCheck {
-        packet_counter: new.packet_counter != packet_counter,
-        pages_counter: new.pages_counter != pages_counter,
-        orbit: !stopped & (new.orbit != last.orbit),
-        distance,
+    // The packet counter that must come behind it: 0 behind 255.
+    fn next_packet_counter(self) -> u8
+        ensures { result ≡ next_packet_counter self }
+    {
+        self.packet_counter.wrapping_add(1)
+    }
+
+    // The pages counter that must come behind it: 0 behind 65,535, and behind a stop.
+    fn next_pages_counter(self) -> u16
+        ensures { result ≡ next_pages_counter self }
+    {
+        if self.is_stop() {
+            0
+        } else {
+            self.pages_counter.wrapping_add(1)
+        }
+    }
+
+    // What the values of a header yield behind its own.
+    #[tactic(auto, unfolding(crate::specs::Link::behind))]
+    fn check_behind(self, new: LastHeader) -> LinkCheck
+        ensures { result ≡ behind self new }
+    {
+        let packet_counter = self.next_packet_counter();
+        LinkCheck {
+            packet_counter: new.packet_counter != packet_counter,
+            pages_counter: new.pages_counter != self.next_pages_counter(),
+            orbit: !self.is_stop() && new.orbit != self.orbit,
+            distance: new.packet_counter.wrapping_sub(packet_counter),
+        }
     }
 }
 
 // What a header yields on a link of which this is kept. The first header of a link is taken as it comes.
-pub fn check_kept(kept: LinkKept, rdh: RdhCru) -> LinkCheck
+#[tactic(auto, unfolding(crate::specs::Link::yields))]
+pub fn check_kept(kept: Option<LastHeader>, rdh: RdhCru) -> LinkCheck
     ensures { result ≡ yields kept rdh }
 {
     match kept {
-        LinkKept::Nothing => LinkCheck {
-            packet_counter: false,
-            pages_counter: false,
-            orbit: false,
-            distance: 0,
-        },
-        LinkKept::Last(last) => check_behind(last, last_of(rdh)),
+        None => LinkCheck::default(),
+        Some(last) => last.check_behind(LastHeader::from(rdh)),
     }
 }
 
 // What is kept of a link, by the entries that the five arrays have for it.
 #[tactic(auto, unfolding(crate::specs::Arrays::kept_of))]
-fn kept_of(seen: u8, last: LastHeader) -> LinkKept
+fn kept_of(seen: u8, last: LastHeader) -> Option<LastHeader>
     ensures { result ≡ kept_of seen last }
 {
-    if seen == 0 {
-        return LinkKept::Nothing;
-    }
-    LinkKept::Last(last)
+    (seen != 0).then_some(last)
 }
 
 // What a header yields on its link, and the header becomes the last one of that link. The five arrays have an entry for each link; where `seen`
 // has 0, nothing is kept, and the other four do not matter.
+#[tactic(auto, unfolding(crate::specs::Arrays::arrays_after))]
 pub fn check_link(
     rdh: RdhCru,
     seen: &mut [u8; LINKS],
@@ -148,7 +137,7 @@ pub fn check_link(
         stop_bit: stop_bits[link],
     };
     let check = check_kept(kept_of(seen[link], last), rdh);
-    let new = last_of(rdh);
+    let new = LastHeader::from(rdh);
     seen[link] = 1;
     packet_counters[link] = new.packet_counter;
     pages_counters[link] = new.pages_counter;
