@@ -1,25 +1,23 @@
 -- Settings and states come back as they went, and all zeros are a beginning.
-use Rattle.std.specs.Prelude.{ℕ, Bool, true, false, ◌≡◌, refl, replicate}
+use Rattle.std.specs.Prelude.{ℕ, Bool, true, false, ◌≡◌, refl, replicate, Option, None, Some}
+use Rattle.std.specs.Bool.{then_some}
+use Rattle.std.specs.Option.{is_some, unwrap_or}
 use Rattle.std.proofs.Common.{true≢false, sym}
-use Rattle.filter.specs.declared.Option8.{Option8}
-use Rattle.filter.specs.declared.Option8.TheVariants as o8
-use Rattle.filter.specs.declared.Option16.{Option16}
-use Rattle.filter.specs.declared.Option16.TheVariants as o16
 use Rattle.scan_cdp.specs.Steps.{new_state}
-use Rattle.scan_cdp.specs.declared.OpenLoad.{OpenLoad}
-use Rattle.scan_cdp.specs.declared.OpenLoad.TheVariants as Load
+use Rattle.scan_cdp.specs.declared.Position.{Position}
 use Rattle.scan_cdp.specs.declared.Progress.{Progress}
 use Rattle.scan_cdp.specs.declared.Settings.{Settings}
 use Rattle.scan_cdp.specs.declared.State.{State}
-use Rattle.doors_scan_structs.specs.Plain.{is_open, open_load, option8, option16, plain_state, progress_of, settings_of, start_or0, state_of}
+use Rattle.doors_scan_structs.specs.Plain.{open_load, plain_state, progress_of, settings_of, start_or0, state_of}
 use Rattle.doors_scan_structs.specs.declared.PlainSettings.{PlainSettings}
 use Rattle.doors_scan_structs.specs.declared.PlainState.{PlainState}
 
--- ---- the state
+-- What is there or not comes back, whatever stands for nothing.
+again : {T : Type 0} (o : Option T) (nothing : T) → then_some (is_some o) (unwrap_or o nothing) ≡ o
+again None nothing = refl
+again (Some x) nothing = refl
 
-load_again : (l : OpenLoad) → open_load (is_open l) (start_or0 l) ≡ l
-load_again Load.None = refl
-load_again (Load.From start) = refl
+-- ---- the state
 
 -- The state that a call leaves is the one that the next call finds: all but the links and the trigger counts ..
 pub progress_again : (p : Progress) → progress_of (plain_state p) ≡ p
@@ -27,7 +25,7 @@ progress_again p =
     λ i. record {
       place = p.place;
       position = p.position;
-      load = load_again p.load i;
+      load = again p.load (record { 0 = 0 }) i;
       counts = p.counts;
       links_used = p.links_used;
       fee_ids_used = p.fee_ids_used;
@@ -41,7 +39,7 @@ state_again s = λ i. record { progress = progress_again s.progress i; links = s
 abbrev pub ClosedAt0 : PlainState → Type 0
 ClosedAt0 n = n.load_open ≡ false → n.load_start ≡ 0
 
-open_again : (opened : Bool) (start : ℕ) → is_open (open_load opened start) ≡ opened
+open_again : (opened : Bool) (start : ℕ) → is_some (open_load opened start) ≡ opened
 open_again true start = refl
 open_again false start = refl
 
@@ -64,9 +62,9 @@ plain_again n closed =
       load_open = open_again n.load_open n.load_start i;
     }
 
-load_closed_at_0 : (l : OpenLoad) → is_open l ≡ false → start_or0 l ≡ 0
-load_closed_at_0 Load.None e = refl
-load_closed_at_0 (Load.From start) e = absurd (true≢false e)
+load_closed_at_0 : (l : Option Position) → is_some l ≡ false → start_or0 l ≡ 0
+load_closed_at_0 None e = refl
+load_closed_at_0 (Some start) e = absurd (true≢false e)
 
 -- .. as it is whenever a call leaves it.
 pub closed_at_0 : (p : Progress) → ClosedAt0 (plain_state p)
@@ -93,44 +91,20 @@ zeros_begin = refl
 
 -- ---- the settings
 
-abbrev is_some8 : Option8 → Bool
-is_some8 o8.None = false
-is_some8 (o8.Some n) = true
-
-abbrev number_or0 : Option8 → ℕ
-number_or0 o8.None = 0
-number_or0 (o8.Some n) = n
-
-abbrev is_some16 : Option16 → Bool
-is_some16 o16.None = false
-is_some16 (o16.Some n) = true
-
-abbrev wide_or0 : Option16 → ℕ
-wide_or0 o16.None = 0
-wide_or0 (o16.Some n) = n
-
 -- C's struct for settings.
 abbrev pub plain_settings : Settings → PlainSettings
 plain_settings s =
     let filter = s.filter in
     record {
-      by_link = is_some8 filter.filter_link;
-      by_fee = is_some16 filter.filter_fee;
-      by_stave = is_some16 filter.filter_its_stave;
-      link = number_or0 filter.filter_link;
-      fee = wide_or0 filter.filter_fee;
-      stave = wide_or0 filter.filter_its_stave;
+      by_link = is_some filter.filter_link;
+      by_fee = is_some filter.filter_fee;
+      by_stave = is_some filter.filter_its_stave;
+      link = unwrap_or filter.filter_link 0;
+      fee = unwrap_or filter.filter_fee 0;
+      stave = unwrap_or filter.filter_its_stave 0;
       skip_payload = s.skip_payload;
       stats = s.stats;
     }
-
-option8_again : (o : Option8) → option8 (is_some8 o) (number_or0 o) ≡ o
-option8_again o8.None = refl
-option8_again (o8.Some n) = refl
-
-option16_again : (o : Option16) → option16 (is_some16 o) (wide_or0 o) ≡ o
-option16_again o16.None = refl
-option16_again (o16.Some n) = refl
 
 -- Whatever a scan can be asked for, C can ask for.
 pub settings_again : (s : Settings) → settings_of (plain_settings s) ≡ s
@@ -138,9 +112,9 @@ settings_again s =
     let filter = s.filter in
     λ i. record {
       filter = record {
-        filter_link = option8_again filter.filter_link i;
-        filter_fee = option16_again filter.filter_fee i;
-        filter_its_stave = option16_again filter.filter_its_stave i;
+        filter_link = again filter.filter_link 0 i;
+        filter_fee = again filter.filter_fee 0 i;
+        filter_its_stave = again filter.filter_its_stave 0 i;
       };
       skip_payload = s.skip_payload;
       stats = s.stats;
