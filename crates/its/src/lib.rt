@@ -51,6 +51,7 @@ pub fn feeid_from_layer_stave(layer: u8, stave: u8) -> u16
 }
 
 // Whether two FEE ids are of one stave: the uplink is ignored.
+#[tactic(auto, unfolding(crate::specs::FeeIds::same_stave))]
 pub fn is_match_feeid_layer_stave(a_fee_id: u16, b_fee_id: u16) -> bool
     ensures { result ≡ same_stave a_fee_id b_fee_id }
 {
