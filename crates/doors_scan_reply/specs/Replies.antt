@@ -1,11 +1,11 @@
 -- The reply of a call, as structs that C has too.
-use Rattle.std.specs.Prelude.{ℕ, Bool, true, false, List, [], ◌∷◌, ℤ, nat_abs, pos}
+use Rattle.std.specs.Prelude.{ℕ, Bool, List, [], ◌∷◌, ℤ, nat_abs, pos, Option}
+use Rattle.std.specs.Option.{is_some, unwrap_or}
 use Rattle.basis.specs.Pick.{pick}
 use Rattle.basis.specs.Refusals.{Answer, gives, refuses}
 use Rattle.serde_rdh.specs.Layout.{encoded_into}
 use Rattle.scan_cdp.specs.Answers.{Found, handed, passed, refusal, wants}
 use Rattle.scan_cdp.specs.declared.Initial.{Initial}
-use Rattle.scan_cdp.specs.declared.Initial.TheVariants as Report
 use Rattle.scan_cdp.specs.declared.LoadMarks.{LoadMarks}
 use Rattle.scan_cdp.specs.declared.Part.{Part}
 use Rattle.scan_cdp.specs.declared.Progress.{Progress}
@@ -71,32 +71,19 @@ refusal_answer why = plain_answer (refusal why)
 
 -- ---- the marks
 
-abbrev pub is_marked : Initial → Bool
-is_marked Report.None = false
-is_marked (Report.Report trigger format system) = true
-
 -- The three values of an initial mark, 0 where there is none.
-abbrev pub trigger_or0 : Initial → ℕ
-trigger_or0 Report.None = 0
-trigger_or0 (Report.Report trigger format system) = trigger
-
-abbrev pub format_or0 : Initial → ℕ
-format_or0 Report.None = 0
-format_or0 (Report.Report trigger format system) = format
-
-abbrev pub system_or0 : Initial → ℕ
-system_or0 Report.None = 0
-system_or0 (Report.Report trigger format system) = system
+abbrev pub initial_or0 : Option Initial → Initial
+initial_or0 initial = unwrap_or initial (record { trigger_type = 0; data_format = 0; system_id = 0 })
 
 -- C's struct for the marks of a call.
 abbrev pub plain_marks : LoadMarks → PlainMarks
 plain_marks m =
     record {
       seen_carries = m.seen_carries;
-      trigger_type = trigger_or0 m.initial;
-      data_format = format_or0 m.initial;
-      system_id = system_or0 m.initial;
-      initial = is_marked m.initial;
+      trigger_type = (initial_or0 m.initial).trigger_type;
+      data_format = (initial_or0 m.initial).data_format;
+      system_id = (initial_or0 m.initial).system_id;
+      initial = is_some m.initial;
       filtered_carry = m.filtered_carry;
       payload_carry = m.payload_carry;
       payload_cut = m.payload_cut;

@@ -1,5 +1,7 @@
 -- Replies come back as they went: what C's structs and the header's bytes hold says all of an answer and of the marks.
-use Rattle.std.specs.Prelude.{ℕ, ◌+◌, ◌≤◌, Bool, true, false, ◌≡◌, refl, List, [], ◌∷◌, ◌++◌, eqb, ℤ, pos, length, drop}
+use Rattle.std.specs.Prelude.{ℕ, ◌+◌, ◌≤◌, Bool, true, false, ◌≡◌, refl, List, [], ◌∷◌, ◌++◌, eqb, ℤ, pos, length, drop, Option, None, Some, Result, Ok, Err}
+use Rattle.std.specs.Bool.{then_some}
+use Rattle.std.specs.Option.{is_some}
 use Rattle.std.proofs.Common.{ap, ◌∙◌, le-ltb}
 use Rattle.basis.specs.Pick.{pick}
 use Rattle.basis.specs.PickLaws.{off}
@@ -9,18 +11,15 @@ use Rattle.serde_rdh.specs.Layout.{InRange, decoded, encoded, encoded_into}
 use Rattle.serde_rdh.proofs.LayoutLaws.{decoded-encoded}
 use Rattle.scan_cdp.specs.Answers.{Found, examined_answer, handed, passed, refusal, wants}
 use Rattle.scan_cdp.specs.Loads.{no_load_marks, together}
-use Rattle.scan_cdp.specs.declared.Examined.{Examined}
-use Rattle.scan_cdp.specs.declared.Examined.TheVariants.{Answered, Passed}
 use Rattle.scan_cdp.specs.declared.Initial.{Initial}
-use Rattle.scan_cdp.specs.declared.Initial.TheVariants as Report
+use Rattle.scan_cdp.specs.declared.LoadCdp.{LoadCdp}
 use Rattle.scan_cdp.specs.declared.LoadCdp.TheVariants as Loads
 use Rattle.scan_cdp.specs.declared.LoadMarks.{LoadMarks}
 use Rattle.scan_cdp.specs.declared.Marks.{Marks}
 use Rattle.scan_cdp.specs.declared.Part.{Part}
 use Rattle.scan_cdp.specs.declared.Refusal.{Refusal}
 use Rattle.scan_cdp.specs.declared.Refusal.TheVariants.{End, FeeIdsFull, MemorySize, OffsetToNext, Unusable}
-use Rattle.doors_scan_reply.specs.Replies.{format_or0, header_left, is_marked, kind_packet, kind_passed, kind_want, plain_answer, plain_marks}
-use Rattle.doors_scan_reply.specs.Replies.{system_or0, trigger_or0}
+use Rattle.doors_scan_reply.specs.Replies.{header_left, initial_or0, kind_packet, kind_passed, kind_want, plain_answer, plain_marks}
 use Rattle.doors_scan_reply.specs.declared.PlainAnswer.{PlainAnswer}
 use Rattle.doors_scan_reply.specs.declared.PlainMarks.{PlainMarks}
 
@@ -45,11 +44,11 @@ read_answer n header =
     (refuses n.refusal (values_in n))))
 
 -- A packet's header is one that 64 bytes can hold, as is so of each header in the code.
-abbrev pub Writable : Examined → Type 0
-Writable Passed = Unit
-Writable (Answered (Loads.Packet packet)) = InRange packet.rdh
-Writable (Answered (Loads.Want place size)) = Unit
-Writable (Answered (Loads.Refused why)) = Unit
+abbrev pub Writable : Result (Option LoadCdp) Refusal → Type 0
+Writable (Ok None) = Unit
+Writable (Ok (Some (Loads.Packet packet))) = InRange packet.rdh
+Writable (Ok (Some (Loads.Want place size))) = Unit
+Writable (Err why) = Unit
 
 header_again : (h : RdhCru) (bytes : List ℕ) → InRange h → 64 ≤ length bytes → decoded (encoded_into h bytes) ≡ h
 unfolding encoded_into
@@ -64,20 +63,20 @@ refusal_again FeeIdsFull header = refl
 refusal_again Unusable header = refl
 
 -- Whatever a call answers can be read back.
-pub answer_again : (a : Examined) (bytes : List ℕ) → Writable a → 64 ≤ length bytes
+pub answer_again : (a : Result (Option LoadCdp) Refusal) (bytes : List ℕ) → Writable a → 64 ≤ length bytes
     → read_answer (plain_answer (examined_answer a)) (header_left (examined_answer a) bytes) ≡ examined_answer a
-answer_again Passed bytes fits long = refl
-answer_again (Answered (Loads.Packet packet)) bytes fits long =
+answer_again (Ok None) bytes fits long = refl
+answer_again (Ok (Some (Loads.Packet packet))) bytes fits long =
     ap (λ (h : RdhCru). gives (handed (record { header = h; payload = packet.payload; position = packet.position; own = packet.own })))
     (header_again packet.rdh bytes fits long)
-answer_again (Answered (Loads.Want place size)) bytes fits long = refl
-answer_again (Answered (Loads.Refused why)) bytes fits long = refusal_again why bytes
+answer_again (Ok (Some (Loads.Want place size))) bytes fits long = refl
+answer_again (Err why) bytes fits long = refusal_again why bytes
 
 -- ---- the marks
 
 -- The marks that C's struct says: of a load ..
-abbrev pub initial_in : PlainMarks → Initial
-initial_in n = pick n.initial (Report.Report n.trigger_type n.data_format n.system_id) Report.None
+abbrev pub initial_in : PlainMarks → Option Initial
+initial_in n = then_some n.initial (record { trigger_type = n.trigger_type; data_format = n.data_format; system_id = n.system_id })
 
 abbrev pub read_marks : PlainMarks → LoadMarks
 read_marks n =
@@ -100,9 +99,9 @@ read_one n =
       payload_cut = n.payload_cut;
     }
 
-initial_again : (i : Initial) → pick (is_marked i) (Report.Report (trigger_or0 i) (format_or0 i) (system_or0 i)) Report.None ≡ i
-initial_again Report.None = refl
-initial_again (Report.Report trigger format system) = refl
+initial_again : (i : Option Initial) → then_some (is_some i) (initial_or0 i) ≡ i
+initial_again None = refl
+initial_again (Some initial) = refl
 
 pub marks_again : (m : LoadMarks) → read_marks (plain_marks m) ≡ m
 marks_again m =

@@ -2,25 +2,28 @@
 #![tactic(auto)]
 
 ghost use Rattle.std.specs.Prelude.{◌≡◌};
-ghost use Rattle.scan_cdp.specs.Answers.{examined_answer, load_answer};
+ghost use Rattle.basis.specs.Refusals.{gives};
+ghost use Rattle.scan_cdp.specs.Answers.{examined_answer, found_by};
 ghost use Rattle.scan_cdp.specs.Loads.{no_load_marks, together};
-ghost use Rattle.doors_scan_reply.specs.Replies.{carries, plain_answer, plain_marks, refusal_answer, refused_with, reply_of};
+ghost use Rattle.doors_scan_reply.specs.Replies.{plain_answer, plain_marks, refusal_answer, refused_with, reply_of};
 
-use doors_scan_structs::{PlainState, plain_state};
-use scan_cdp::{Examined, Initial, LoadCdp, LoadMarks, Marks, Progress, Refusal};
+use doors_scan_structs::PlainState;
+use scan_cdp::{LoadCdp, LoadMarks, Marks, Progress, Refusal};
 
-// The kinds of an answer.
-const PASSED: u32 = 0;
-
-const PACKET: u32 = 1;
-
-const WANT: u32 = 2;
-
-const REFUSED: u32 = 3;
+// The kinds of an answer, by C's numbers. Only an examination passes a header. Only a listing meets a full buffer: one that may have no room
+// for the next packet's lines.
+#[derive(Clone, Copy, Debug, PartialEq, Eq)]
+pub enum Kind {
+    Passed = 0,
+    Packet = 1,
+    Want = 2,
+    Refused = 3,
+    Full = 4,
+}
 
 // What a call found: its kind, and what that kind has; all else is 0.
 #[repr(C)]
-#[derive(Clone, Copy)]
+#[derive(Clone, Copy, Debug, PartialEq, Eq, Default)]
 pub struct PlainAnswer {
     pub position: u64,
     pub own: u64,
@@ -35,7 +38,7 @@ pub struct PlainAnswer {
 
 // What is reported of the headers that a call examined. Trigger type, data format and system id are 0 where there is no initial mark.
 #[repr(C)]
-#[derive(Clone, Copy)]
+#[derive(Clone, Copy, Debug, PartialEq, Eq, Default)]
 pub struct PlainMarks {
     pub seen_carries: u64,
     pub trigger_type: u32,
@@ -49,147 +52,128 @@ pub struct PlainMarks {
 
 // What an examination or a load replies, but for the lists and the header's bytes, which are lent.
 #[repr(C)]
-#[derive(Clone, Copy)]
+#[derive(Clone, Copy, Debug, PartialEq, Eq)]
 pub struct PlainReply {
     pub answer: PlainAnswer,
     pub marks: PlainMarks,
     pub state: PlainState,
 }
 
-pub fn reply_of(answer: Examined, marks: LoadMarks, progress: Progress) -> PlainReply
+pub fn reply_of(
+    answer: Result<Option<LoadCdp>, Refusal>,
+    marks: LoadMarks,
+    progress: Progress,
+) -> PlainReply
     ensures { result ≡ reply_of (examined_answer answer) marks progress }
 {
     PlainReply {
-        answer: examined_answer(answer),
-        marks: plain_marks(marks),
-        state: plain_state(progress),
+        answer: PlainAnswer::from(answer),
+        marks: PlainMarks::from(marks),
+        state: PlainState::from(progress),
     }
 }
 
-fn examined_answer(answer: Examined) -> PlainAnswer
-    ensures { result ≡ plain_answer (examined_answer answer) }
-{
-    match answer {
-        Examined::Passed => PlainAnswer {
-            position: 0,
-            own: 0,
-            want_place: 0,
-            want_size: 0,
-            payload_start: 0,
-            payload_length: 0,
-            kind: PASSED,
-            refusal: 0,
-            distance: 0,
-        },
-        Examined::Answered(found) => plain_answer(found),
+// What an examination answers, or what a load does, which passes no header.
+impl From<Result<Option<LoadCdp>, Refusal>> for PlainAnswer {
+    fn from(answer: Result<Option<LoadCdp>, Refusal>) -> PlainAnswer
+        ensures { result ≡ plain_answer (examined_answer answer) }
+    {
+        match answer {
+            Ok(None) => PlainAnswer {
+                kind: Kind::Passed as u32,
+                ..PlainAnswer::default()
+            },
+            Ok(Some(found)) => PlainAnswer::from(found),
+            Err(why) => PlainAnswer::from(why),
+        }
     }
 }
 
-// The plain struct that says what a load answers, but for a packet's header.
-pub fn plain_answer(answer: LoadCdp) -> PlainAnswer
-    ensures { result ≡ plain_answer (load_answer answer) }
-{
-    match answer {
-        LoadCdp::Packet(packet) => PlainAnswer {
-            position: packet.position.0,
-            own: packet.own.0,
-            want_place: 0,
-            want_size: 0,
-            payload_start: packet.payload.start,
-            payload_length: packet.payload.length,
-            kind: PACKET,
-            refusal: 0,
-            distance: 0,
-        },
-        LoadCdp::Want(place, size) => PlainAnswer {
-            position: 0,
-            own: 0,
-            want_place: place.0,
-            want_size: size,
-            payload_start: 0,
-            payload_length: 0,
-            kind: WANT,
-            refusal: 0,
-            distance: 0,
-        },
-        LoadCdp::Refused(why) => refusal_answer(why),
+// All that is found but a packet's header.
+impl From<LoadCdp> for PlainAnswer {
+    fn from(found: LoadCdp) -> PlainAnswer
+        ensures { result ≡ plain_answer (gives (found_by found)) }
+    {
+        match found {
+            LoadCdp::Packet(packet) => PlainAnswer {
+                kind: Kind::Packet as u32,
+                position: packet.position.0,
+                own: packet.own.0,
+                payload_start: packet.payload.start,
+                payload_length: packet.payload.length,
+                ..PlainAnswer::default()
+            },
+            LoadCdp::Want(place, size) => PlainAnswer {
+                kind: Kind::Want as u32,
+                want_place: place.0,
+                want_size: size,
+                ..PlainAnswer::default()
+            },
+        }
     }
 }
 
-fn refusal_answer(why: Refusal) -> PlainAnswer
-    ensures { result ≡ refusal_answer why }
-{
-    let number = why.number() as u32;
-    match why {
-        Refusal::OffsetToNext(distance, position) => refused(number, distance, position.0),
-        _ => refused(number, 0, 0),
+impl From<Refusal> for PlainAnswer {
+    fn from(why: Refusal) -> PlainAnswer
+        ensures { result ≡ refusal_answer why }
+    {
+        let (distance, position) = match why {
+            Refusal::OffsetToNext(distance, position) => (distance, position.0),
+            _ => (0, 0),
+        };
+        PlainAnswer::refused(u32::from(why.number()), distance, position)
     }
 }
 
-// A refusal by its number, with distance and position, which only 2 has.
-pub fn refused(refusal: u32, distance: i32, position: u64) -> PlainAnswer
-    ensures { result ≡ refused_with refusal distance position }
-{
-    PlainAnswer {
-        position,
-        own: 0,
-        want_place: 0,
-        want_size: 0,
-        payload_start: 0,
-        payload_length: 0,
-        kind: REFUSED,
-        refusal,
-        distance,
+impl PlainAnswer {
+    // A refusal by its number, with distance and position, which only 2 has.
+    pub fn refused(refusal: u32, distance: i32, position: u64) -> PlainAnswer
+        ensures { result ≡ refused_with refusal distance position }
+    {
+        PlainAnswer {
+            kind: Kind::Refused as u32,
+            refusal,
+            distance,
+            position,
+            ..PlainAnswer::default()
+        }
     }
 }
 
-fn plain_marks(marks: LoadMarks) -> PlainMarks
-    ensures { result ≡ plain_marks marks }
-{
-    let initial = marks.initial;
-    match initial {
-        Initial::None => PlainMarks {
+impl From<LoadMarks> for PlainMarks {
+    fn from(marks: LoadMarks) -> PlainMarks
+        ensures { result ≡ plain_marks marks }
+    {
+        let counted = PlainMarks {
             seen_carries: marks.seen_carries,
-            trigger_type: 0,
-            data_format: 0,
-            system_id: 0,
-            initial: false,
             filtered_carry: marks.filtered_carry,
             payload_carry: marks.payload_carry,
             payload_cut: marks.payload_cut,
-        },
-        Initial::Report(trigger_type, data_format, system_id) => PlainMarks {
-            seen_carries: marks.seen_carries,
-            trigger_type,
-            data_format,
-            system_id,
-            initial: true,
-            filtered_carry: marks.filtered_carry,
-            payload_carry: marks.payload_carry,
-            payload_cut: marks.payload_cut,
-        },
+            ..PlainMarks::default()
+        };
+        match marks.initial {
+            None => counted,
+            Some(initial) => PlainMarks {
+                initial: true,
+                trigger_type: initial.trigger_type,
+                data_format: initial.data_format,
+                system_id: initial.system_id,
+                ..counted
+            },
+        }
     }
 }
 
 // The marks of an examination, as those of a load that makes no other.
+#[tactic(auto, unfolding(scan_cdp::specs::Loads::together))]
 pub fn alone(marks: Marks) -> LoadMarks
     ensures { result ≡ together no_load_marks marks }
 {
-    let initial = marks.initial;
     LoadMarks {
-        initial,
-        seen_carries: carries(marks.seen_carry),
+        initial: marks.initial,
+        seen_carries: u64::from(marks.seen_carry),
         filtered_carry: marks.filtered_carry,
         payload_carry: marks.payload_carry,
         payload_cut: marks.payload_cut,
     }
-}
-
-fn carries(carry: bool) -> u64
-    ensures { result ≡ carries carry }
-{
-    if carry {
-        return 1;
-    }
-    0
 }
