@@ -22,11 +22,8 @@ pub fn hex(rt: &impl Print, n: u64) -> io::Result<()> {
 // Each byte as two hexadecimal digits, with a blank before the first.
 pub fn bytes(rt: &impl Print, s: &[u8]) -> io::Result<()> {
     print!(rt; " ")?;
-    let mut i = 0;
-    while i < s.len() {
-        let b = s[i];
+    for b in s {
         print!(rt; "{b:02x}")?;
-        i += 1;
     }
     Ok(())
 }
