@@ -1,10 +1,8 @@
 -- What a buffer holds of an input, and how it moves on: the window that a scan is lent.
-use Rattle.std.specs.Prelude.{ℕ, ◌+◌, ◌-◌, ◌≤◌, ◌<◌, min, max, true, false, ◌≡◌, List, length, take, drop}
+use Rattle.std.specs.Prelude.{ℕ, ◌+◌, ◌-◌, ◌≤◌, ◌<◌, min, max, true, false, ◌≡◌, List, length, take, drop, Result, Ok, Err}
 use Rattle.std.proofs.Math.Seq.{paste}
 use Rattle.scan_cdp.specs.declared.BytePlace.{BytePlace}
 use Rattle.listing_window.specs.declared.Held.{Held}
-use Rattle.listing_window.specs.declared.Refilled.{Refilled}
-use Rattle.listing_window.specs.declared.Refilled.TheVariants.{Window, Failed}
 
 -- Nothing is held where the input goes on from a byte place.
 abbrev pub nothing_from : BytePlace → Held
@@ -68,11 +66,11 @@ pub record Fails (h : Held) (m : List ℕ) (place size : ℕ) (l : List ℕ) : T
   pub lacking : Lacks h place size l
   pub same : take h.length l ≡ take h.length m
 
-abbrev pub ReadsOn : Held → List ℕ → (place size : ℕ) → List ℕ → Refilled → Type 0
-ReadsOn h m place size l Failed = Fails h m place size l
-ReadsOn h m place size l (Window g) = Reads h m place size g l
+abbrev pub ReadsOn : {E : Type 0} → Held → List ℕ → (place size : ℕ) → List ℕ → Result Held E → Type 0
+ReadsOn h m place size l (Err e) = Fails h m place size l
+ReadsOn h m place size l (Ok g) = Reads h m place size g l
 
 -- The contract of reading on: the bytes from the place on move to the front, and reading goes on behind them. `r` is the reply, and `l` what
 -- is left in the buffer.
-abbrev pub Shows : Held → List ℕ → (place size : ℕ) → List ℕ → Refilled → Type 0
+abbrev pub Shows : {E : Type 0} → Held → List ℕ → (place size : ℕ) → List ℕ → Result Held E → Type 0
 Shows h m place size = ReadsOn (held_from m h place) (slid m h place) place size

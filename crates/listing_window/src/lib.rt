@@ -6,21 +6,15 @@ ghost use Rattle.std.specs.Prelude.{◌≡◌, ◌-◌, ◌≤◌, ◌<◌, min,
 ghost use Rattle.listing_window.specs.Held.{ReadsOn, Shows, held_from, nothing, nothing_from, slid};
 
 use scan_cdp::{BytePlace, LIMIT};
-use std::io::{Read, Seek, SeekFrom};
+use std::io;
+use std::io::{ErrorKind, Read, Seek, SeekFrom};
 
 // What a buffer holds: so many bytes, from a byte place of the input on, and whether the input ends with them.
-#[derive(Clone, Copy)]
+#[derive(Clone, Copy, Debug, PartialEq, Eq)]
 pub struct Held {
     pub first: BytePlace,
     pub length: usize,
     pub last: bool,
-}
-
-// What reading on answers: what is held then, or that a read failed, or that there is no buffer to read into.
-#[derive(Clone, Copy)]
-pub enum Refilled {
-    Window(Held),
-    Failed,
 }
 
 // Nothing was read yet.
@@ -35,41 +29,35 @@ pub fn empty() -> Held
 }
 
 // Reads on until the buffer holds `size` bytes from `place` on, or the input ends. It keeps the bytes from that place on. What it
-// reads in front of the place is dropped. A buffer that is too short for `size` bytes is filled.
+// reads in front of the place is dropped. A buffer that is too short for `size` bytes is filled. Where a read fails, it answers with
+// the read's error, and the same where there is no buffer to read into.
+#[tactic(auto, using(crate::proofs::HeldLaws::held_within, crate::proofs::HeldLaws::held_none))]
 pub fn refill<R: Read + Seek>(
     input: &mut R,
     buffer: &mut [u8],
     held: Held,
     place: BytePlace,
     size: u64,
-) -> Refilled
+) -> io::Result<Held>
     ensures { Shows held buffer.old place.0 size buffer.new result }
 {
     let kept = slide(buffer, held, place);
-    let reached = pass(input, buffer, kept, place);
-    match reached {
-        Refilled::Window(there) => fill(input, buffer, there, size),
-        Refilled::Failed => Refilled::Failed,
-    }
+    let there = pass(input, buffer, kept, place)?;
+    fill(input, buffer, there, size)
 }
 
 // Moves the bytes from `place` on to the front of the buffer.
+#[tactic(auto, unfolding(crate::specs::Held::held_from, crate::specs::Held::slid))]
 pub fn slide(buffer: &mut [u8], held: Held, place: BytePlace) -> Held
     ensures value { result ≡ held_from buffer.old held place.0 }
     ensures buffer_after { buffer.new ≡ slid buffer.old held place.0 }
 {
-    let length = numbers::least(held.length, buffer.len());
+    let length = held.length.min(buffer.len());
     let distance = distance(held.first, place, length);
-    let kept = length - distance;
-    let mut i = 0;
-    while i < kept {
-        let b = buffer[distance + i];
-        buffer[i] = b;
-        i += 1;
-    }
+    buffer.copy_within(distance..length, 0);
     Held {
         first: BytePlace(held.first.0 + distance as u64),
-        length: kept,
+        length: length - distance,
         last: held.last,
     }
 }
@@ -78,29 +66,24 @@ pub fn slide(buffer: &mut [u8], held: Held, place: BytePlace) -> Held
 fn distance(first: BytePlace, place: BytePlace, length: usize) -> usize
     ensures { result ≡ min (place.0 - first.0) length }
 {
-    if place.0 <= first.0 {
-        return 0;
-    }
-    let ahead = place.0 - first.0;
-    if ahead < length as u64 {
-        return ahead as usize;
-    }
-    length
+    place.0.saturating_sub(first.0).min(length as u64) as usize
 }
 
 // Goes on to `place`: skips what a file has before it, and reads and drops what a pipe has. What is held is at the place already, or nothing is held.
-fn pass<R: Read + Seek>(input: &mut R, buffer: &mut [u8], held: Held, place: BytePlace) -> Refilled
+fn pass<R: Read + Seek>(
+    input: &mut R,
+    buffer: &mut [u8],
+    held: Held,
+    place: BytePlace,
+) -> io::Result<Held>
     requires { (held.length ≤ length buffer.old) × (held.first.0 < place.0 → held.length ≡ 0) }
     ensures { ReadsOn held buffer.old place.0 0 buffer.new result }
 {
-    if held.last {
-        return Refilled::Window(held);
-    }
-    if place.0 <= held.first.0 {
-        return Refilled::Window(held);
+    if held.last || place.0 <= held.first.0 {
+        return Ok(held);
     }
     if is_skipped(input, place.0 - held.first.0) {
-        return Refilled::Window(Held {
+        return Ok(Held {
             first: place,
             length: 0,
             last: false,
@@ -115,80 +98,63 @@ fn drop_up_to<R: Read>(
     buffer: &mut [u8],
     from: BytePlace,
     place: BytePlace,
-) -> Refilled
+) -> io::Result<Held>
     requires { from.0 < place.0 }
     ensures { ReadsOn (nothing_from from) buffer.old place.0 0 buffer.new result }
 {
-    if buffer.len() < 1 {
-        return Refilled::Failed;
+    if buffer.is_empty() {
+        return Err(io::Error::new(ErrorKind::InvalidInput, "no buffer to read into"));
     }
-    let mut first = from.0;
-    while first < place.0 {
-        let start = 0;
-        let end = distance(BytePlace(first), place, buffer.len());
-        let Ok(n) = input.read(&mut buffer[start..end]) else {
-            return Refilled::Failed;
-        };
-        if n == 0 {
-            return Refilled::Window(Held {
-                first: BytePlace(first),
-                length: 0,
-                last: true,
-            });
-        }
-        first += n as u64;
-    }
-    Refilled::Window(Held {
-        first: BytePlace(first),
+    let mut held = Held {
+        first: from,
         length: 0,
         last: false,
-    })
+    };
+    while held.first.0 < place.0 {
+        let end = distance(held.first, place, buffer.len());
+        let n = input.read(&mut buffer[..end])?;
+        if n == 0 {
+            return Ok(Held { last: true, ..held });
+        }
+        held.first.0 += n as u64;
+    }
+    Ok(held)
 }
 
 // Skips so many bytes of the input, no more than byte places reach, if it is one that can be read from any place. A pipe is not, and answers
 // that with an error.
 fn is_skipped<R: Seek>(input: &mut R, distance: u64) -> bool {
-    (distance <= LIMIT) && input.seek(SeekFrom::Current(distance as i64)).is_ok()
+    distance <= LIMIT && input.seek(SeekFrom::Current(distance as i64)).is_ok()
 }
 
 // Reads behind what is held, until there are `size` bytes, the buffer is full or the input ends.
-fn fill<R: Read>(input: &mut R, buffer: &mut [u8], held: Held, size: u64) -> Refilled
+fn fill<R: Read>(input: &mut R, buffer: &mut [u8], held: Held, size: u64) -> io::Result<Held>
     requires { held.length ≤ length buffer.old }
     ensures { ReadsOn held buffer.old held.first.0 size buffer.new result }
 {
-    let first = held.first;
-    let full = buffer.len();
-    let wanted = distance(BytePlace(0), BytePlace(size), full);
-    let mut length = held.length;
     if held.last {
-        return Refilled::Window(held);
+        return Ok(held);
     }
-    while length < wanted {
-        let Ok(n) = input.read(&mut buffer[length..full]) else {
-            return Refilled::Failed;
-        };
+    let wanted = distance(BytePlace(0), BytePlace(size), buffer.len());
+    let mut there = held;
+    while there.length < wanted {
+        let n = input.read(&mut buffer[there.length..])?;
         if n == 0 {
-            return Refilled::Window(Held {
-                first,
-                length,
+            return Ok(Held {
                 last: true,
+                ..there
             });
         }
-        length += n;
+        there.length += n;
     }
-    Refilled::Window(Held {
-        first,
-        length,
-        last: false,
-    })
+    Ok(there)
 }
 
 #[cfg(test)]
 mod tests {
     use super::*;
     use std::fs::File;
-    use std::io;
-    use std::io::{Cursor, ErrorKind};
+    use std::io::Cursor;
 
     // An input that tells how much was read of it, and that can be sought or not.
     #[derive(Drop)]
@@ -217,7 +183,7 @@ mod tests {
     }
 
     #[test]
-    fn what_is_skipped_is_sought_where_it_can_be_and_else_read(rt: HostRuntime) {
+    fn what_is_skipped_is_sought_where_it_can_be_and_else_read(rt: HostRuntime) -> io::Result<()> {
         let mut bytes = [0u8; 10200];
         bytes[10064] = 7;
         for (is_sought, read) in [(true, 64), (false, 10128)] {
@@ -227,14 +193,12 @@ mod tests {
                 is_sought,
             };
             let mut buffer = [0u8; 64];
-            let refilled = refill(&mut input, &mut buffer, empty(), BytePlace(10064), 64);
-            let Refilled::Window(held) = refilled else {
-                panic!(rt; "a read failed");
-            };
+            let held = refill(&mut input, &mut buffer, empty(), BytePlace(10064), 64)?;
             assert_eq!(rt; (held.first.0, held.length, held.last), (10064, 64, false));
             assert_eq!(rt; buffer[0], 7);
             assert_eq!(rt; input.read, read);
         }
+        Ok(())
     }
 
     // The test's own program is a file that is long enough.
@@ -246,10 +210,7 @@ mod tests {
             is_sought: true,
         };
         let mut buffer = [0u8; 64];
-        let refilled = refill(&mut input, &mut buffer, empty(), BytePlace(5000), 64);
-        let Refilled::Window(held) = refilled else {
-            panic!(rt; "a read failed");
-        };
+        let held = refill(&mut input, &mut buffer, empty(), BytePlace(5000), 64)?;
         assert_eq!(rt; (held.first.0, held.length, held.last), (5000, 64, false));
         assert_eq!(rt; input.read, 64);
         assert_eq!(rt; input.input.stream_position()?, 5064);
