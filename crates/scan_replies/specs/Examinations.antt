@@ -1,26 +1,27 @@
--- What an examination replies, with the links, trigger counts and FEE ids where they stand, and the parts of it that find no header.
-use Rattle.std.specs.Prelude.{ℕ, Bool, ◌≡◌, List}
+-- What an examination replies, with the scan that it leaves, and the replies that find no header.
+use Rattle.std.specs.Prelude.{ℕ, Bool, Option, Result}
 use Rattle.basis.specs.Pick.{pick}
-use Rattle.basis.specs.Refusals.{Answer, gives}
-use Rattle.scan_cdp.specs.Answers.{Found, examined_answer, wants}
-use Rattle.scan_cdp.specs.Steps.{Entry, ended, no_marks, unchanged, with_lent}
+use Rattle.basis.specs.Refusals.{gives}
+use Rattle.scan_cdp.specs.Answers.{examined_answer, wants}
+use Rattle.scan_cdp.specs.Scans.{state_of}
+use Rattle.scan_cdp.specs.Steps.{Entry, ended, no_marks, unchanged}
+use Rattle.scan_cdp.specs.declared.LoadCdp.{LoadCdp}
 use Rattle.scan_cdp.specs.declared.Part.{Part}
-use Rattle.scan_cdp.specs.declared.Progress.{Progress}
+use Rattle.scan_cdp.specs.declared.Refusal.{Refusal}
+use Rattle.scan_cdp.specs.declared.Scan.{Scan}
 use Rattle.scan_replies.specs.declared.Examination.{Examination}
 
--- An examination's reply, with the links, trigger counts and FEE ids that it leaves (W8).
-abbrev pub examination_of : Examination → (links triggers fee_ids : List ℕ) → Entry Part
-examination_of r links triggers fee_ids =
-    record { answer = examined_answer r.answer; marks = r.marks; state = with_lent r.progress links triggers; fee_ids = fee_ids }
+-- An examination's reply, with the state and the FEE ids that it leaves in the scan (W8).
+abbrev pub examination_of : Examination → Scan → Entry Part
+examination_of r scan =
+    record { answer = examined_answer r.answer; marks = r.marks; state = state_of scan; fee_ids = scan.fee_ids.now }
 
--- A reply that changes nothing.
-pub record Unchanged (p : Progress) (a : Answer (Found Part)) (r : Examination) : Type 0 where
-  pub answer : examined_answer r.answer ≡ a
-  pub marks : r.marks ≡ no_marks
-  pub progress : r.progress ≡ p
+-- A reply that marks nothing.
+abbrev pub unmarked : Result (Option LoadCdp) Refusal → Examination
+unmarked answer = record { answer = answer; marks = no_marks }
 
--- A reply where there are fewer than 64 bytes at the byte place, whatever is listed and counted.
-abbrev pub Lacking : Progress → ℕ → Bool → Examination → Type 0
-Lacking p end last r =
-    (links triggers fee_ids : List ℕ) → examination_of r links triggers fee_ids
-    ≡ pick last (ended (with_lent p links triggers) fee_ids end) (unchanged (with_lent p links triggers) fee_ids (gives (wants p.place 64)))
+-- The entry where there are fewer than 64 bytes at the scan's byte place.
+abbrev pub lacking : Scan → ℕ → Bool → Entry Part
+lacking scan end last =
+    pick last (ended (state_of scan) scan.fee_ids.now end)
+    (unchanged (state_of scan) scan.fee_ids.now (gives (wants scan.progress.place 64)))

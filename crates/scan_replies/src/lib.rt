@@ -1,68 +1,46 @@
-// What an examination replies, and the replies that find no header: one that changes nothing, a want for a header, and the end.
+// What an examination replies, and the replies that find no header: one that marks nothing, a want for a header, and the end.
 #![tactic(auto)]
 
 ghost use Rattle.std.specs.Prelude.{◌≡◌};
-ghost use Rattle.scan_cdp.specs.Answers.{load_answer};
-ghost use Rattle.scan_cdp.specs.Steps.{no_marks};
-ghost use Rattle.scan_replies.specs.Examinations.{Lacking, Unchanged};
+ghost use Rattle.scan_cdp.specs.Scans.{SameScan};
+ghost use Rattle.scan_replies.specs.Examinations.{examination_of, lacking, unmarked};
 
 use rdh::rdh_cru::RDH_CRU_SIZE_BYTES;
-use scan_cdp::{BytePlace, Examined, Initial, LoadCdp, Marks, OpenLoad, Progress, Refusal};
+use scan_cdp::{BytePlace, LoadCdp, Marks, Refusal, Scan};
 
 // The bytes that a want for a header asks for.
 pub const WANTED_HEADER: u64 = RDH_CRU_SIZE_BYTES as u64;
 
-// What the examination of one header replies. Links, trigger counts and FEE ids are left where they are lent.
+// What the examination of one header replies. What it leaves is in the scan.
 #[derive(Clone, Copy)]
 pub struct Examination {
-    pub answer: Examined,
+    pub answer: Result<Option<LoadCdp>, Refusal>,
     pub marks: Marks,
-    pub progress: Progress,
 }
 
-pub fn no_marks() -> Marks
-    ensures { result ≡ no_marks }
-{
-    Marks {
-        initial: Initial::None,
-        seen_carry: false,
-        filtered_carry: false,
-        payload_carry: false,
-        payload_cut: false,
-    }
-}
-
-// A call that changes nothing.
-pub fn unchanged(progress: Progress, answer: LoadCdp) -> Examination
-    ensures { Unchanged progress (load_answer answer) result }
-{
-    Examination {
-        answer: Examined::Answered(answer),
-        marks: no_marks(),
-        progress,
+impl Examination {
+    // A reply that marks nothing.
+    pub fn unmarked(answer: Result<Option<LoadCdp>, Refusal>) -> Examination
+        ensures { result ≡ unmarked answer }
+    {
+        Examination {
+            answer,
+            marks: Marks::default(),
+        }
     }
 }
 
 // There are fewer than 64 bytes at the byte place: a want, or refusal 1, which moves the place to the end and closes the load.
-pub fn lacking(progress: Progress, end: u64, last: bool) -> Examination
-    ensures { Lacking progress end last result }
+#[tactic(auto, unfolding(scan_cdp::specs::Steps::ended))]
+pub fn lacking(scan: &mut Scan, end: u64, last: bool) -> Examination
+    ensures examined { examination_of result scan.new ≡ lacking scan.old end last }
+    ensures same { SameScan scan.old scan.new }
 {
-    let place = progress.place;
-    let position = progress.position;
-    let counts = progress.counts;
     if !last {
-        return unchanged(progress, LoadCdp::Want(place, WANTED_HEADER));
+        let want = LoadCdp::Want(scan.progress.place, WANTED_HEADER);
+        return Examination::unmarked(Ok(Some(want)));
     }
-    Examination {
-        answer: outcome_effects::refused(Refusal::End),
-        marks: no_marks(),
-        progress: Progress {
-            place: BytePlace(numbers::greater(place.0, end)),
-            position,
-            load: OpenLoad::None,
-            counts,
-            links_used: progress.links_used,
-            fee_ids_used: progress.fee_ids_used,
-        },
-    }
+    scan.progress.place = BytePlace(scan.progress.place.0.max(end));
+    scan.progress.load = None;
+    Examination::unmarked(Err(Refusal::End))
 }
