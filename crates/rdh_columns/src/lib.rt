@@ -3,7 +3,7 @@
 
 ghost use Rattle.std.specs.Prelude.{◌≡◌};
 ghost use Rattle.rdh_columns.specs.Columns.{columns_of, columns_text};
-ghost use Rattle.text.specs.Put.{Put};
+ghost use Rattle.text_writer.specs.Writer.{extended};
 
 use rdh::rdh_cru::RdhCru;
 use text_writer::TextWriter;
@@ -48,33 +48,24 @@ pub fn columns_of(h: RdhCru) -> Columns
     }
 }
 
-// Puts the columns at a place, each filled with blanks up to its width; the last one ends the row.
-pub fn put_columns(out: &mut [u8], at: usize, c: Columns) -> usize
-    ensures { Put out.old at (columns_text c) out.new result }
+// Writes the columns, each filled with blanks up to its width; the last one ends the row.
+pub fn put_columns(w: &mut TextWriter, c: Columns)
+    ensures { w.new ≡ extended w.old (columns_text c) }
 {
-    write_columns(out, at, c).count()
-}
-
-// The writer that holds the buffer once the columns are written behind the first `at` bytes.
-fn write_columns<'a>(out: &'a mut [u8], at: usize, c: Columns) -> TextWriter<'a>
-    ensures same_reference { result.buf.ghost_name ≡ out.entry.ghost_name }
-    ensures put { Put out.entry.now at (columns_text c) result.buf.now result.count }
-{
-    TextWriter::new(out, at)
-        .write_decimal_left(c.header_id, 6)
-        .write_decimal_left(c.header_size, 7)
-        .write_decimal_left(c.fee_id, 7)
-        .write_decimal_left(c.system_id, 6)
-        .write_decimal_left(c.offset_new_packet, 8)
-        .write_decimal_left(c.link_id, 6)
-        .write_decimal_left(c.packet_counter, 10)
-        .write_decimal_left(c.bc, 5)
-        .write_hex_left(c.orbit, 12)
-        .write_decimal_left(c.data_format, 11)
-        .write_hex_left(c.trigger_type, 10)
-        .write_decimal_left(c.pages_counter, 9)
-        .write_decimal_left(c.stop_bit, 5)
-        .write_byte(b' ')
-        .write_byte(b' ')
-        .write_hex(c.detector_field)
+    w.write_decimal_left(c.header_id, 6);
+    w.write_decimal_left(c.header_size, 7);
+    w.write_decimal_left(c.fee_id, 7);
+    w.write_decimal_left(c.system_id, 6);
+    w.write_decimal_left(c.offset_new_packet, 8);
+    w.write_decimal_left(c.link_id, 6);
+    w.write_decimal_left(c.packet_counter, 10);
+    w.write_decimal_left(c.bc, 5);
+    w.write_hex_left(c.orbit, 12);
+    w.write_decimal_left(c.data_format, 11);
+    w.write_hex_left(c.trigger_type, 10);
+    w.write_decimal_left(c.pages_counter, 9);
+    w.write_decimal_left(c.stop_bit, 5);
+    w.write_byte(b' ');
+    w.write_byte(b' ');
+    w.write_hex(c.detector_field);
 }

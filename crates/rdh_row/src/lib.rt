@@ -2,12 +2,14 @@
 #![tactic(auto)]
 
 ghost use Rattle.rdh_row.specs.Row.{row_text};
-ghost use Rattle.text.specs.Put.{Put};
+ghost use Rattle.std.specs.Prelude.{◌≡◌};
 ghost use Rattle.text.specs.Written.{Needed, Writes};
+ghost use Rattle.text_writer.specs.Writer.{extended};
 
 use rdh::rdh_cru::RdhCru;
 use rdh_columns::{columns_of, put_columns};
 use text::Written;
+use text_writer::TextWriter;
 
 // The length of the longest row: a buffer of this length is never too short.
 const LONGEST_ROW: usize = 114;
@@ -20,7 +22,9 @@ pub fn row(h: RdhCru, out: &mut [u8]) -> Written
     if out.len() < need {
         return Written::TooShort(need);
     }
-    Written::Text(put_row(out, 0, h))
+    let mut w = TextWriter::new(out, 0);
+    put_row(&mut w, h);
+    Written::Text(w.count)
 }
 
 // The length that the row needs, or 0 where any row fits the room.
@@ -31,12 +35,15 @@ fn needed(h: RdhCru, room: usize) -> usize
         return 0;
     }
     let mut none = [0u8; 0];
-    put_row(&mut none, 0, h)
+    let mut w = TextWriter::new(&mut none, 0);
+    put_row(&mut w, h);
+    w.count
 }
 
-// Puts the row of `h` at a place, for whoever puts more in front of it or behind it.
-pub fn put_row(out: &mut [u8], at: usize, h: RdhCru) -> usize
-    ensures { Put out.old at (row_text h) out.new result }
+// Writes the row of `h`, for whoever writes more in front of it or behind it.
+#[tactic(auto, using(crate::proofs::RowLaws::columns_row))]
+pub fn put_row(w: &mut TextWriter, h: RdhCru)
+    ensures { w.new ≡ extended w.old (row_text h) }
 {
-    put_columns(out, at, columns_of(h))
+    put_columns(w, columns_of(h));
 }

@@ -4,6 +4,3 @@ use Rattle.rdh_row.proofs.row.Goals as goal
 
 pub returns-then-out-need : goal.returns-then-out-need
 returns-then-out-need c = too_short _ c.needed-need.ensures c.if-out-need.true
-
-pub returns : goal.returns
-returns c = fitting (c.needed-need.ensures.fits c.if-out-need.false) c.put_row.ensures
