@@ -1,9 +1,10 @@
 -- Laws of lists: what a number that is met leaves.
-use Rattle.std.specs.Prelude.{◌≡◌, ℕ, ◌+◌, ◌<◌, ◌≤◌, Bool, true, false, not, ◌&&◌, ◌||◌, List, [], ◌∷◌, ◌++◌, length, take, ◌==◌, nat_lt, slice_set, refl}
+use Rattle.std.specs.Prelude.{◌≡◌, ℕ, ◌+◌, ◌<◌, ◌≤◌, Bool, true, false, not, ◌&&◌, List, length, take, nat_lt, slice_set, refl}
 use Rattle.std.proofs.Math.Bool.{and-eq-true_iff}
-use Rattle.std.proofs.Common.{ap, ap₂, sym, ◌∙◌, arith, add-one, ne_eqb, lt-ltb, le-ltb, le-leb, ltb-true, length-set, take-suc-set}
-use Rattle.std.proofs.lemmas.Bool.{eqb-false, lt-leb, not-true}
-use Rattle.basis.specs.PickLaws.{on, off, neither}
+use Rattle.std.proofs.Common.{ap, ap₂, sym, ◌∙◌, arith, add-one, lt-ltb, le-ltb, le-leb, ltb-true, length-set, take-suc-set}
+use Rattle.std.proofs.lemmas.Bool.{lt-leb, not-true}
+use Rattle.basis.specs.PickLaws.{on, off}
+use Rattle.stats_search.specs.SearchLaws.{twice_put}
 use Rattle.stats.specs.Lists.{full, goes_in, member, places_after, twice, used_after}
 
 -- ---- a number that is met
@@ -18,9 +19,11 @@ unfolding used_after places_after
 stays x used l e = record { number = sym (off _ _ e); places = sym (off _ _ e) }
 
 pub no_place : (x used : ℕ) (l : List ℕ) → length l ≤ used → Stays x used l
+unfolding member
 no_place x used l h = stays x used l (ap (λ (b : Bool). b && not (member x (take used l))) (le-ltb used (length l) h))
 
 pub known : (x used : ℕ) (l : List ℕ) → used < length l → member x (take used l) ≡ true → Stays x used l
+unfolding member
 known x used l h e = stays x used l (ap (λ (b : Bool). b && not (member x (take used l))) (lt-ltb used (length l) h) ∙ ap (λ (b : Bool). not b) e)
 
 -- A new number with a place is put there.
@@ -29,42 +32,23 @@ pub record GoesIn (x used : ℕ) (l : List ℕ) : Type 0 where
   pub places : slice_set l used x ≡ places_after x used l
 
 pub new : (x used : ℕ) (l : List ℕ) → used < length l → member x (take used l) ≡ false → GoesIn x used l
-unfolding used_after places_after
+unfolding used_after places_after member
 new x used l h e =
     let goes = ap (λ (b : Bool). b && not (member x (take used l))) (lt-ltb used (length l) h) ∙ ap (λ (b : Bool). not b) e in
     record { number = sym (on _ _ goes); places = sym (on _ _ goes) }
 
 pub has_place : (x used : ℕ) (l : List ℕ) → used < length l → false ≡ full x used l
-unfolding full
+unfolding full member
 has_place x used l h = sym (ap (λ (b : Bool). b && not (member x (take used l))) (lt-leb (length l) used h))
 
 pub searched : (x used : ℕ) (l : List ℕ) → length l ≤ used → not (member x (take used l)) ≡ full x used l
-unfolding full
+unfolding full member
 searched x used l h = sym (ap (λ (b : Bool). b && not (member x (take used l))) (le-leb (length l) used h))
-
--- ---- a number put behind a list
-
--- what a list does not have, it does not have with another number behind it
-member_put : (y x : ℕ) (l : List ℕ) → member y l ≡ false → (y == x) ≡ false → member y (l ++ (x ∷ [])) ≡ false
-unfolding member
-member_put y x [] e other = ap (λ (b : Bool). b || false) other
-member_put y x (z ∷ l) e other =
-    let (here, later) = neither (y == z) (member y l) e in
-    ap₂ (λ (a : Bool) (b : Bool). a || b) here (member_put y x l later other)
-
--- a list with nothing twice has nothing twice with a new number behind it
-twice_put : (x : ℕ) (l : List ℕ) → twice l ≡ false → member x l ≡ false → twice (l ++ (x ∷ [])) ≡ false
-unfolding member twice
-twice_put x [] once e = refl
-twice_put x (y ∷ l) once e =
-    let (other, later) = neither (x == y) (member x l) e in
-    let (alone, rest) = neither (member y l) (twice l) once in
-    let differs = ne_eqb y x (λ (same : y ≡ x). eqb-false x y other (sym same)) in
-    ap₂ (λ (a : Bool) (b : Bool). a || b) (member_put y x l alone differs) (twice_put x l rest later)
 
 -- After a number is met, the list is as long as before, and its used part lies in it and has nothing twice if it did so before.
 module _ (x used : ℕ) (l : List ℕ) where
   goes : goes_in x used l ≡ true → (used < length l) × (member x (take used l) ≡ false)
+  unfolding member
   goes e =
       let (room, absent) = (and-eq-true_iff (nat_lt used (length l)) (not (member x (take used l)))).0 e in
       (ltb-true used (length l) room, not-true (member x (take used l)) absent)

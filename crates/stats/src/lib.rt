@@ -3,71 +3,51 @@
 
 ghost use Rattle.std.specs.Prelude.{◌≡◌};
 ghost use Rattle.stats.specs.Counts.{added};
-ghost use Rattle.stats.specs.Lists.{full, places_after, used_after};
+ghost use Rattle.stats.specs.Lists.{full_by, places_by, used_by};
 
+use stats_search::has;
 pub use stats_search::has_link_twice;
-use stats_search::{has_fee_id, has_link};
 
 // A count, and whether it was full and started again at 0.
-#[derive(Clone, Copy)]
+#[derive(Clone, Copy, Debug, PartialEq, Eq)]
 pub struct Count {
     pub value: u32,
     pub carry: bool,
 }
 
 // The count with `n` more, modulo 2^32. Where that is 2^32 - 1, it is set to 0 and marked.
+#[tactic(auto, unfolding(crate::specs::Counts::added))]
 pub fn add(count: u32, n: u32) -> Count
     ensures { result ≡ added count n }
 {
-    let sum = std::num::wrapping_add_u32(count, n);
-    if sum == u32::MAX {
+    let value = count.wrapping_add(n);
+    if value == u32::MAX {
         return Count {
             value: 0,
             carry: true,
         };
     }
     Count {
-        value: sum,
+        value,
         carry: false,
     }
 }
 
-// Whether a FEE id is new and has no place left in the list. Only a list without a free place is searched.
-pub fn fee_ids_full(fee_ids: &[u16], used: usize, fee_id: u16) -> bool
-    ensures { result ≡ full fee_id used fee_ids.now }
+// Whether a link or a FEE id is new and has no place left in its list. Only a list without a free place is searched.
+pub fn is_full<T: Eq + Copy>(list: &[T], used: usize, x: T) -> bool
+    ensures { result ≡ full_by T.eq x used list.now }
 {
-    if used < fee_ids.len() {
-        return false;
-    }
-    !has_fee_id(fee_ids, used, fee_id)
+    list.len() <= used && !has(list, used, x)
 }
 
-// Lists a FEE id that is new behind the used part, where there is a place, and gives the used number.
-pub fn try_add_fee_id(fee_ids: &mut [u16], used: usize, fee_id: u16) -> usize
-    ensures used { result ≡ used_after fee_id used fee_ids.old }
-    ensures places { fee_ids.new ≡ places_after fee_id used fee_ids.old }
+// Lists a link or a FEE id that is new behind the used part, where there is a place, and gives the used number.
+pub fn try_add<T: Eq + Copy>(list: &mut [T], used: usize, x: T) -> usize
+    ensures used { result ≡ used_by T.eq x used list.old }
+    ensures places { list.new ≡ places_by T.eq x used list.old }
 {
-    if fee_ids.len() <= used {
+    if list.len() <= used || has(list, used, x) {
         return used;
     }
-    if has_fee_id(fee_ids, used, fee_id) {
-        return used;
-    }
-    fee_ids[used] = fee_id;
-    used + 1
-}
-
-// Lists a link that is new behind the used part, where there is a place, and gives the used number.
-pub fn try_add_link(links: &mut [u8], used: usize, link: u8) -> usize
-    ensures used { result ≡ used_after link used links.old }
-    ensures places { links.new ≡ places_after link used links.old }
-{
-    if links.len() <= used {
-        return used;
-    }
-    if has_link(links, used, link) {
-        return used;
-    }
-    links[used] = link;
+    list[used] = x;
     used + 1
 }

@@ -1,8 +1,5 @@
 use Rattle.stats_search.specs.SearchLaws.{Walked}
 use Rattle.stats_search.proofs.has_link_twice.Given as goal
 
-abbrev pub invariant-loop-i : goal.invariant-loop-i
-invariant-loop-i l = Walked l.links l.used l.i l.later
-
-abbrev pub decreases-loop-i : goal.decreases-loop-i
-decreases-loop-i l = l.i
+abbrev pub invariant-loop-link : goal.invariant-loop-link
+invariant-loop-link l = Walked l.link-items l.link-index l.met
