@@ -7,12 +7,26 @@ use crate::rdh0::Rdh0;
 use crate::rdh1::Rdh1;
 use crate::rdh2::Rdh2;
 use crate::rdh3::Rdh3;
+use std::error::Error;
+use std::fmt;
 
 // The length of a header.
 pub const RDH_CRU_SIZE_BYTES: usize = 64;
 
 // The same in the width of an offset and of a memory size, of which it is the least.
 pub const RDH_SIZE: u16 = RDH_CRU_SIZE_BYTES as u16;
+
+// Fewer bytes than a header has.
+#[derive(Clone, Copy, Debug, PartialEq, Eq)]
+pub struct TooFewBytes;
+
+impl fmt::Display for TooFewBytes {
+    fn fmt<W: fmt::Write>(&self, f: &mut fmt::Formatter<W>) -> fmt::Result {
+        write!(f, "fewer than {RDH_CRU_SIZE_BYTES} bytes")
+    }
+}
+
+impl Error for TooFewBytes {}
 
 // The number of the common readout unit, 12 bits, and of its data wrapper (dw), 4 bits above it.
 #[derive(Clone, Copy, Debug, PartialEq, Eq)]

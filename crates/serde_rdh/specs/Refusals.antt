@@ -1,17 +1,14 @@
--- What the enums that decoding and encoding answer with say: a header, that it was written, or refusal 9.
-use Rattle.std.specs.Prelude.{[]}
+-- What decoding and encoding answer, as an answer: a header, that it was written, or refusal 9.
+use Rattle.std.specs.Prelude.{[], Result, Ok, Err}
 use Rattle.basis.specs.Refusals.{Answer, gives, refuses}
 use Rattle.rdh.specs.declared.rdh_cru.RdhCru.{RdhCru}
-use Rattle.serde_rdh.specs.declared.FromBuf.{FromBuf}
-use Rattle.serde_rdh.specs.declared.FromBuf.TheVariants as from-buf
-use Rattle.serde_rdh.specs.declared.ToByteSlice.{ToByteSlice}
-use Rattle.serde_rdh.specs.declared.ToByteSlice.TheVariants as to-byte-slice
+use Rattle.rdh.specs.declared.rdh_cru.TooFewBytes.{TooFewBytes}
 
 -- Too few bytes were lent: R9.
-abbrev pub decode_answer : FromBuf → Answer RdhCru
-decode_answer (from-buf.Rdh h) = gives h
-decode_answer from-buf.TooShort = refuses 9 []
+abbrev pub decode_answer : Result RdhCru TooFewBytes → Answer RdhCru
+decode_answer (Ok h) = gives h
+decode_answer (Err few) = refuses 9 []
 
-abbrev pub encode_answer : ToByteSlice → Answer Unit
-encode_answer to-byte-slice.Written = gives tt
-encode_answer to-byte-slice.TooShort = refuses 9 []
+abbrev pub encode_answer : Result Unit TooFewBytes → Answer Unit
+encode_answer (Ok done) = gives tt
+encode_answer (Err few) = refuses 9 []

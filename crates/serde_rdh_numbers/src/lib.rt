@@ -1,22 +1,63 @@
 // Numbers of several bytes, lowest byte first: each is joined from its low and its high half.
 #![tactic(auto)]
 
+ghost use Rattle.std.specs.Prelude.{ℕ};
 ghost use Rattle.serde_rdh_numbers.specs.Joined.{Joined};
 
-pub fn join_u8(low: u8, high: u8) -> u16
-    ensures { Joined 1 low high result }
-{
-    low as u16 + 0x100 * (high as u16)
+// A number that can be a half of one of twice as many bytes.
+pub trait Half: Sized {
+    type Whole;
+
+    // How many bytes a half has, and the numbers that it and the whole are.
+    ghost width: { ℕ };
+
+    ghost number: { Self → ℕ };
+
+    ghost whole: { Self.Whole → ℕ };
+
+    // The number that has these bytes, and those of `high` behind them.
+    fn join(self, high: Self) -> Self::Whole
+        ensures { Joined width (number self) (number high) (whole result) };
 }
 
-pub fn join_u16(low: u16, high: u16) -> u32
-    ensures { Joined 2 low high result }
-{
-    low as u32 + 0x1_0000 * (high as u32)
+impl Half for u8 {
+    type Whole = u16;
+
+    ghost width = { 1 };
+
+    ghost number = { λ n. n };
+
+    ghost whole = { λ n. n };
+
+    fn join(self, high: u8) -> u16 {
+        u16::from(self) + 0x100 * u16::from(high)
+    }
 }
 
-pub fn join_u32(low: u32, high: u32) -> u64
-    ensures { Joined 4 low high result }
-{
-    low as u64 + 0x1_0000_0000 * (high as u64)
+impl Half for u16 {
+    type Whole = u32;
+
+    ghost width = { 2 };
+
+    ghost number = { λ n. n };
+
+    ghost whole = { λ n. n };
+
+    fn join(self, high: u16) -> u32 {
+        u32::from(self) + 0x1_0000 * u32::from(high)
+    }
+}
+
+impl Half for u32 {
+    type Whole = u64;
+
+    ghost width = { 4 };
+
+    ghost number = { λ n. n };
+
+    ghost whole = { λ n. n };
+
+    fn join(self, high: u32) -> u64 {
+        u64::from(self) + 0x1_0000_0000 * u64::from(high)
+    }
 }

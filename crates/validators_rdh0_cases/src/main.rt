@@ -4,7 +4,6 @@
 #![tactic(auto)]
 
 use rdh::rdh0::{FeeId, Rdh0};
-use serde_rdh_numbers::join_u8;
 use std::io;
 use std::io::{ErrorKind, Read};
 use validators::{HeaderId, Verdict};
@@ -16,10 +15,10 @@ fn rdh0_of(word: [u8; 8]) -> Rdh0 {
     Rdh0 {
         header_id: word[0],
         header_size: word[1],
-        fee_id: FeeId(join_u8(word[2], word[3])),
+        fee_id: FeeId(u16::from_le_bytes([word[2], word[3]])),
         priority_bit: word[4],
         system_id: word[5],
-        reserved0: join_u8(word[6], word[7]),
+        reserved0: u16::from_le_bytes([word[6], word[7]]),
     }
 }
 

@@ -1,44 +1,42 @@
--- Below 64 bytes the test refuses before anything is written. From there on what is left to store, from where the loop stands, is always the
--- rest of the one run of the words, whose bytes then stand in front of the old ones.
-use mathlib.Core.Path.{◌≡◌, ◌∙◌}
-use mathlib.Core.List.{[]}
-use Prim.Native.Nat.{◌≤◌}
-use native.Mathlib.Omega.{arith}
-use borrow.Author.Rules.{rules}
-use borrow.Author.Tests.{lt-ltb, le-ltb}
-use lib.ListN.{length, drop, drop_of_length-le}
-use lib.Seq.{sets}
-use Rattle.serde_rdh_words.specs.WordBytes.{word_bytes, words_into}
-use Rattle.serde_rdh_words.proofs.Stores.{sets_front, sets_word}
-use Rattle.serde_rdh_words.proofs.WordLaws.{length_word_bytes}
+-- In front the words so far, behind them what was there: after the eighth, the 64 bytes.
+use Rattle.std.proofs.Common.{rules, ◌≡◌, ◌∙◌, sym, ap, ap₂, ◌+◌, ◌*◌, ◌≤◌, ◌++◌, List, ℕ, arith, length, get_or, take, drop, take_all}
+use Rattle.std.proofs.lemmas.Slice.{take-put_mid, drop-put_mid}
+use Rattle.basis.specs.Bytes.{bytes_of}
+use Rattle.basis.specs.BytesLaws.{length_bytes_of}
+use Rattle.serde_rdh_words.specs.WordBytes.{word_bytes}
+use Rattle.serde_rdh_words.proofs.WordLaws.{eight_bytes, later, left, one_more, written}
 use Rattle.serde_rdh_words.proofs.write_words.Goals as goal
 
-pub returns-then-out-lt-RDH_CRU_SIZE_BYTES : goal.returns-then-out-lt-RDH_CRU_SIZE_BYTES
-unfolding words_into
-returns-then-out-lt-RDH_CRU_SIZE_BYTES c =
-    let short = lt-ltb (length c.args.out.now) 64 (omega arith) in
-    record { fit = rw short; left = rw short }
+pub returns-then-out-lt-RDH_CRU_SIZE_BYTES-clause-left : goal.returns-then-out-lt-RDH_CRU_SIZE_BYTES-clause-left
+returns-then-out-lt-RDH_CRU_SIZE_BYTES-clause-left c = left c.args.words c.args.out.now (omega arith)
+
+pub loop-w-init : goal.loop-w-init
+unfolding word_bytes
+loop-w-init c = search rules
 
 pub loop-w-preserved : goal.loop-w-preserved
 loop-w-preserved c =
+    let at = c.loop-w in
     let words = c.args.words in
     let eight : length words ≡ 8 = search rules in
-    let stored = sets_word c.loop-w.out words c.loop-w.w (omega arith) ∙ c.loop-w.invariant.2 in
-    (omega arith, omega arith, rw c.write_u64.ensures stored)
-
-pub returns : goal.returns
-unfolding word_bytes words_into
-returns c =
-    let start = c.args in
-    let turn = c.loop-w in
-    let l = start.out.now in
-    let words = start.words in
-    let eight : length words ≡ 8 = search rules in
-    let none : drop turn.w words ≡ [] = drop_of_length-le words {i = turn.w} (omega arith) in
-    let long : 64 ≤ length l = omega (arith, c.if-out-lt-RDH_CRU_SIZE_BYTES.false) in
-    let test = le-ltb (length l) 64 long in
-    let stored : turn.out ≡ sets l 0 (word_bytes words) = rw none at turn.invariant.2 in
+    let here : 8 * at.w ≤ length at.out = omega arith in
+    let now : c.copy_from_slice.new.self ≡ bytes_of 8 (get_or words at.w 0) =
+    c.copy_from_slice.ensures.after ∙ c.to_le_bytes.ensures ∙ eight_bytes (get_or words at.w 0) in
+    let long : length c.copy_from_slice.new.self ≡ 8 = ap length now ∙ length_bytes_of 8 (get_or words at.w 0) in
     record {
-      fit = rw test;
-      left = rw test (stored ∙ sets_front l (word_bytes words) 64 (omega (arith, length_word_bytes words)) long);
+      front = take-put_mid (8 * at.w) _ at.out _ (8 * (at.w + 1)) (omega arith) here
+          ∙ ap₂ (λ (s t : List ℕ). s ++ t) at.invariant.front now
+          ∙ sym (one_more words at.w (omega arith));
+      behind = drop-put_mid (8 * at.w) _ at.out _ (8 * (at.w + 1)) (omega arith) here (omega arith)
+          ∙ later at.out c.args.out.now (8 * at.w) (8 * (at.w + 1)) (omega arith) at.invariant.behind;
     }
+
+pub returns-clause-left : goal.returns-clause-left
+returns-clause-left c =
+    let at = c.loop-w in
+    let words = c.args.words in
+    let eight : length words ≡ 8 = search rules in
+    let all : at.w ≡ 8 = omega arith in
+    written words c.args.out.now at.out (omega arith)
+    (ap (λ (w : ℕ). take (8 * w) at.out) (sym all) ∙ at.invariant.front ∙ ap word_bytes (take_all at.w words (omega arith)))
+    (ap (λ (w : ℕ). drop (8 * w) at.out) (sym all) ∙ at.invariant.behind ∙ ap (λ (w : ℕ). drop (8 * w) c.args.out.now) all)
