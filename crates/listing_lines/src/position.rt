@@ -1,22 +1,23 @@
 // A position as the listing shows it.
 ghost use Rattle.std.specs.Prelude.{◌≡◌, map, ◌<◌};
 ghost use Rattle.text_numbers.specs.Numerals.{glyph, numeral};
-ghost use Rattle.text.specs.Put.{Put};
+ghost use Rattle.text_writer.specs.Writer.{extended};
 ghost use Rattle.listing_lines.specs.Lines.{position_text, upper};
 
 use scan_cdp::Position;
+use text_writer::TextWriter;
 
 // `0x` and the digits, the letters among them in upper case: Rust's `{:#X}`.
-pub fn put(out: &mut [u8], at: usize, position: Position) -> usize
-    ensures { Put out.old at (position_text position.0) out.new result }
+pub fn put(w: &mut TextWriter, position: Position)
+    ensures { w.new ≡ extended w.old (position_text position.0) }
 {
-    let at = text::put_bytes(out, at, b"0x");
-    put_digits(out, at, position.0)
+    w.write_bytes(b"0x");
+    put_digits(w, position.0);
 }
 
 // The digits, filled in from the last one back as those of `text_numbers` are.
-fn put_digits(out: &mut [u8], at: usize, n: u64) -> usize
-    ensures { Put out.old at (map upper (numeral 16 16 n)) out.new result }
+fn put_digits(w: &mut TextWriter, n: u64)
+    ensures { w.new ≡ extended w.old (map upper (numeral 16 16 n)) }
 {
     let mut digits = [0u8; 16];
     let mut first = 15;
@@ -27,7 +28,7 @@ fn put_digits(out: &mut [u8], at: usize, n: u64) -> usize
         digits[first] = digit(rest % 16);
         rest /= 16;
     }
-    text::put_bytes(out, at, &digits[first..])
+    w.write_bytes(&digits[first..]);
 }
 
 // A digit's byte, `0` to `9` and then `A` to `F`.

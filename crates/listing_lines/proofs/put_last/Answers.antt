@@ -1,14 +1,11 @@
 -- The four lines, one behind the other; the last has the number of the refusal.
-use Prim.Native.Nat.{ℕ}
-use mathlib.Core.Path.{ap}
-use Rattle.text.specs.Ascii.{ascii}
-use Rattle.text.specs.PutLaws.{and_then, respelled}
-use Rattle.listing_lines.specs.Lines.{count_line, last_lines}
+use Rattle.std.proofs.Common.{rules, ◌<◌, ◌^◌, length}
+use Rattle.text_writer.proofs.WriterLaws.{extended_then}
+use Rattle.listing_lines.specs.Lines.{last_lines}
 use Rattle.listing_lines.proofs.put_last.Goals as goal
 
 pub returns : goal.returns
 unfolding last_lines
 returns c =
-    and_then
-    (and_then (and_then c.put_count-at.ensures c.put_count-at-2.ensures) c.put_count-at-3.ensures)
-    (respelled (ap (λ (n : ℕ). count_line (ascii "end") n) c.number.ensures) c.put_count.ensures)
+    let room : length c.args.w.now.buf.now < 2 ^ 64 = search rules in
+    extended_then _ _ _ _ room (extended_then _ _ _ _ room (extended_then _ _ _ _ room c.put_count.ensures c.put_count-2.ensures) c.put_count-3.ensures) (rw c.number.ensures at c.put_count-4.ensures)

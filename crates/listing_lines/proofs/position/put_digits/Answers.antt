@@ -1,7 +1,6 @@
 -- As for the digits of `text_numbers`, with their letters in upper case.
 use mathlib.Core.Path.{refl}
 use native.Mathlib.Omega.{arith}
-use Rattle.text.specs.PutLaws.{respelled}
 use Rattle.text_numbers.specs.FillLaws.{all_filled, last_filled, next_filled}
 use Rattle.listing_lines.specs.Lines.{upper}
 use Rattle.listing_lines.proofs.position.put_digits.Goals as goal
@@ -15,4 +14,4 @@ pub loop-rest-preserved : goal.loop-rest-preserved
 loop-rest-preserved c = next_filled (omega arith) c.loop-rest.invariant (omega arith) c.digit-in-loop-rest.ensures (omega arith)
 
 pub returns : goal.returns
-returns c = respelled (all_filled c.loop-rest.invariant (omega arith)) c.put_bytes.ensures
+returns c = rw (all_filled c.loop-rest.invariant (omega arith)) at c.write_bytes.ensures
