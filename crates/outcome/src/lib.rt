@@ -6,7 +6,7 @@ ghost use Rattle.scan_cdp.specs.Steps.{is_first};
 ghost use Rattle.scan_cdp.specs.Outcomes.{bad_memory_size, bad_offset, is_counted, filtered, hands_out, matched, outcome_of};
 
 use rdh::rdh_cru::{RDH_SIZE, RdhCru};
-use scan_cdp::{OpenLoad, Outcome, Settings};
+use scan_cdp::{Outcome, Position, Settings};
 
 // The largest offset: 10 KB behind the header.
 const MAX_OFFSET: u16 = 10_064;
@@ -95,11 +95,8 @@ pub fn hands_out(outcome: Outcome) -> bool
 }
 
 // Whether a header is the first of its load.
-pub fn is_first(load: OpenLoad) -> bool
+pub fn is_first(load: Option<Position>) -> bool
     ensures { result ≡ is_first load }
 {
-    match load {
-        OpenLoad::None => true,
-        OpenLoad::From(_) => false,
-    }
+    load.is_none()
 }

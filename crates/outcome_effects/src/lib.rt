@@ -2,21 +2,31 @@
 #![tactic(auto)]
 
 ghost use Rattle.std.specs.Prelude.{◌≡◌};
-ghost use Rattle.scan_cdp.specs.Answers.{examined_answer, refusal};
+ghost use Rattle.scan_cdp.specs.Answers.{examined_answer};
 ghost use Rattle.scan_cdp.specs.Outcomes.{skip_distance};
 ghost use Rattle.scan_cdp.specs.Steps.{answer_in, initial_of};
 
 use rdh::rdh_cru::{RDH_CRU_SIZE_BYTES, RdhCru};
-use scan_cdp::{Examined, Initial, LoadCdp, Outcome, Packet, Part, Position, Refusal};
+use scan_cdp::{Initial, LoadCdp, Outcome, Packet, Part, Position, Refusal};
 
 // The initial mark, before anything is counted.
-pub fn initial_collect_stats(stats: bool, first: bool, position: Position, rdh: RdhCru) -> Initial
+#[tactic(auto, unfolding(scan_cdp::specs::Steps::initial_of))]
+pub fn initial_collect_stats(
+    stats: bool,
+    first: bool,
+    position: Position,
+    rdh: RdhCru,
+) -> Option<Initial>
     ensures { result ≡ initial_of stats first position rdh }
 {
     if stats & first & (position.0 == 0) {
-        return Initial::Report(rdh.rdh2.trigger_type, rdh.data_format(), rdh.rdh0.system_id);
+        return Some(Initial {
+            trigger_type: rdh.rdh2.trigger_type,
+            data_format: rdh.data_format(),
+            system_id: rdh.rdh0.system_id,
+        });
     }
-    Initial::None
+    None
 }
 
 // The answer for a header at this position, in a load that started at `start`.
@@ -26,30 +36,24 @@ pub fn answer(
     payload: Part,
     start: Position,
     position: Position,
-) -> Examined
+) -> Result<Option<LoadCdp>, Refusal>
     ensures { examined_answer result ≡ answer_in outcome rdh payload start position }
 {
     match outcome {
-        Outcome::FeeIdsFull => refused(Refusal::FeeIdsFull),
-        Outcome::BadOffset => refused(Refusal::OffsetToNext(
+        Outcome::FeeIdsFull => Err(Refusal::FeeIdsFull),
+        Outcome::BadOffset => Err(Refusal::OffsetToNext(
             skip_distance(rdh.offset_new_packet),
             position,
         )),
-        Outcome::MemorySize => refused(Refusal::MemorySize),
-        Outcome::Passed => Examined::Passed,
-        Outcome::HandedOut => Examined::Answered(LoadCdp::Packet(Packet {
+        Outcome::MemorySize => Err(Refusal::MemorySize),
+        Outcome::Passed => Ok(None),
+        Outcome::HandedOut => Ok(Some(LoadCdp::Packet(Packet {
             rdh,
             payload,
             position: start,
             own: position,
-        })),
+        }))),
     }
-}
-
-pub fn refused(why: Refusal) -> Examined
-    ensures { examined_answer result ≡ refusal why }
-{
-    Examined::Answered(LoadCdp::Refused(why))
 }
 
 // The distance to the next header, from behind this one.

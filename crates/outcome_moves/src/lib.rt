@@ -8,7 +8,7 @@ ghost use Rattle.scan_cdp.specs.declared.Outcome.TheVariants.{HandedOut};
 
 use outcome_payload::is_cut;
 use rdh::rdh_cru::{RDH_CRU_SIZE_BYTES, RdhCru};
-use scan_cdp::{OpenLoad, Outcome, Position};
+use scan_cdp::{Outcome, Position};
 
 // How far the byte place moves on.
 pub fn place_moved(skip: bool, outcome: Outcome, rdh: RdhCru, left: usize) -> usize
@@ -56,24 +56,21 @@ pub fn position_moved(outcome: Outcome, rdh: RdhCru) -> u64
 }
 
 // The position at which the load of a header started, which is the header's own if it is the first.
-pub fn start_of(load: OpenLoad, position: Position) -> Position
+pub fn start_of(load: Option<Position>, position: Position) -> Position
     ensures { result ≡ start_of load position }
 {
-    match load {
-        OpenLoad::None => position,
-        OpenLoad::From(start) => start,
-    }
+    load.unwrap_or(position)
 }
 
 // The load after a header at this position.
-pub fn load_after(outcome: Outcome, load: OpenLoad, position: Position) -> OpenLoad
+pub fn load_after(outcome: Outcome, load: Option<Position>, position: Position) -> Option<Position>
     ensures { result ≡ load_after outcome load position }
 {
     match outcome {
-        Outcome::FeeIdsFull => OpenLoad::None,
-        Outcome::BadOffset => OpenLoad::None,
-        Outcome::MemorySize => OpenLoad::None,
-        Outcome::Passed => OpenLoad::From(start_of(load, position)),
-        Outcome::HandedOut => OpenLoad::None,
+        Outcome::FeeIdsFull => None,
+        Outcome::BadOffset => None,
+        Outcome::MemorySize => None,
+        Outcome::Passed => Some(start_of(load, position)),
+        Outcome::HandedOut => None,
     }
 }
