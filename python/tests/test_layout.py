@@ -12,7 +12,7 @@ PROGRAM = ROOT / "target/doors/test"
 
 # The sizes of Rattle's types, by which C aligns them too.
 SIZES = {"bool": 1, "u8": 1, "u16": 2, "u32": 4, "i32": 4, "u64": 8, "usize": ctypes.sizeof(ctypes.c_size_t)}
-STRUCT = re.compile(r"#\[repr\(C\)\]\s*#\[derive\(Clone, Copy\)\]\s*pub struct (?:Plain)?(\w+) \{(.*?)\n\}", re.DOTALL)
+STRUCT = re.compile(r"#\[repr\(C\)\]\s*#\[derive\([\w, ]+\)\]\s*pub struct (?:Plain)?(\w+) \{(.*?)\n\}", re.DOTALL)
 FIELD = re.compile(r"^ *pub (\w+): (\w+),", re.MULTILINE)
 
 
