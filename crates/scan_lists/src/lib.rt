@@ -2,26 +2,17 @@
 #![tactic(auto)]
 
 ghost use Rattle.std.specs.Prelude.{◌≡◌};
-ghost use Rattle.scan_cdp.specs.Steps.{places_listed, used_listed};
+ghost use Rattle.basis.specs.Pick.{pick};
+ghost use Rattle.stats.specs.Lists.{places_by, used_by};
 
-// Lists the link of a header that step 2 counted. Answers the used number after it.
-pub fn list_link(due: bool, links: &mut [u8], used: usize, link: u8) -> usize
-    ensures used { result ≡ used_listed due link used links.old }
-    ensures places { links.new ≡ places_listed due link used links.old }
+// Lists the link or the FEE id of a header, if step 2 counted it. Answers the used number after it.
+pub fn list_if_due<T: Eq + Copy>(due: bool, list: &mut [T], used: usize, x: T) -> usize
+    ensures used { result ≡ pick due (used_by T.eq x used list.old) used }
+    ensures places { list.new ≡ pick due (places_by T.eq x used list.old) list.old }
 {
-    if !due {
-        return used;
+    if due {
+        stats::try_add(list, used, x)
+    } else {
+        used
     }
-    stats::try_add_link(links, used, link)
-}
-
-// Lists the FEE id of a header that step 2 counted. Answers the used number after it.
-pub fn list_fee_id(due: bool, fee_ids: &mut [u16], used: usize, fee_id: u16) -> usize
-    ensures used { result ≡ used_listed due fee_id used fee_ids.old }
-    ensures places { fee_ids.new ≡ places_listed due fee_id used fee_ids.old }
-{
-    if !due {
-        return used;
-    }
-    stats::try_add_fee_id(fee_ids, used, fee_id)
 }

@@ -2,56 +2,32 @@
 // or said to be more than there is.
 #![tactic(auto)]
 
+use stats_search::has;
 use std::io;
 
-fn answer(rt: &impl Print, b: bool) -> io::Result<()> {
-    if b {
-        cases_show::text(rt, b" yes")?;
-    } else {
-        cases_show::text(rt, b" no")?;
-    }
-    Ok(())
+fn word(b: bool) -> &'static str {
+    if b { "yes" } else { "no" }
 }
 
 fn added(rt: &impl Print, count: u32, n: u32) -> io::Result<()> {
-    let c = stats::add(count, n);
-    cases_show::number(rt, count as u64)?;
-    cases_show::text(rt, b" +")?;
-    cases_show::number(rt, n as u64)?;
-    cases_show::text(rt, b" =")?;
-    cases_show::number(rt, c.value as u64)?;
-    if c.carry {
-        cases_show::text(rt, b", carried")?;
-    }
-    cases_show::end(rt)
+    let sum = stats::add(count, n);
+    let mark = if sum.carry { ", carried" } else { "" };
+    println!(rt; " {count} + {n} = {}{mark}", sum.value)
 }
 
 fn links(rt: &impl Print, list: &[u8], used: usize) -> io::Result<()> {
-    cases_show::text(rt, b"links")?;
+    print!(rt; "links")?;
     cases_show::bytes(rt, list)?;
-    cases_show::text(rt, b" used")?;
-    cases_show::number(rt, used as u64)?;
-    cases_show::text(rt, b": 0")?;
-    answer(rt, stats_search::has_link(list, used, 0))?;
-    cases_show::text(rt, b", 7")?;
-    answer(rt, stats_search::has_link(list, used, 7))?;
-    cases_show::text(rt, b", 255")?;
-    answer(rt, stats_search::has_link(list, used, 255))?;
-    cases_show::text(rt, b", twice")?;
-    answer(rt, stats_search::has_link_twice(list, used))?;
-    cases_show::end(rt)
+    print!(rt; " used {used}:")?;
+    for link in [0, 7, 255u8] {
+        print!(rt; " {link} {},", word(has(list, used, link)))?;
+    }
+    println!(rt; " twice {}", word(stats_search::has_link_twice(list, used)))
 }
 
 fn fee_ids(rt: &impl Print, list: &[u16], used: usize) -> io::Result<()> {
-    cases_show::text(rt, b"FEE ids, used")?;
-    cases_show::number(rt, used as u64)?;
-    cases_show::text(rt, b": 0x502a")?;
-    answer(rt, stats_search::has_fee_id(list, used, 0x502A))?;
-    cases_show::text(rt, b", 42")?;
-    answer(rt, stats_search::has_fee_id(list, used, 42))?;
-    cases_show::text(rt, b", 65535")?;
-    answer(rt, stats_search::has_fee_id(list, used, 65535))?;
-    cases_show::end(rt)
+    let [pixel, small, largest] = [0x502A, 42, 65535].map(|id| word(has(list, used, id)));
+    println!(rt; "FEE ids, used {used}: 0x502a {pixel}, 42 {small}, 65535 {largest}")
 }
 
 fn main(rt: HostRuntime) -> io::Result<()> {
