@@ -337,7 +337,7 @@ module _ (set : Settings) (s : State) (fee_ids w : List ℕ) (first : ℕ) (last
   -- a full list stays as it is
   full_stays : full (header_fee_id here) s.progress.fee_ids_used fee_ids ≡ true
       → behind_header true true false s fee_ids here ≡ behind_header true false false s fee_ids here
-  unfolding full used_listed places_listed
+  unfolding full used_listed places_listed member
   full_stays is =
       let p = s.progress in
       let used = p.fee_ids_used in
