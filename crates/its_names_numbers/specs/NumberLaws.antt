@@ -1,5 +1,5 @@
 -- Laws of the numbers of a stave name: `number_of` finds exactly the numbers of the grammar, and a text is one number at most.
-use Rattle.std.specs.Prelude.{◌≡◌, refl, Bool, true, false, ◌&&◌, List, [], ◌∷◌, ◌++◌, ℕ, zero, suc, ◌+◌, ◌-◌, ◌*◌, ◌^◌, ◌<◌, ◌≤◌, eqb, leb, length, get_or}
+use Rattle.std.specs.Prelude.{◌≡◌, refl, Bool, true, false, ◌&&◌, List, [], ◌∷◌, ◌++◌, ℕ, zero, suc, ◌+◌, ◌-◌, ◌*◌, ◌^◌, ◌<◌, ◌≤◌, eqb, leb, length, get_or, Option, Some, None}
 use Rattle.std.proofs.Common.{ap, sym, ◌∙◌, subst, true≢false, arith, length-append, leb-true, le-leb, eqb-true}
 use Rattle.std.proofs.Math.Nat.{pow-succ'}
 use Rattle.std.proofs.lemmas.Bool.{eqb-false}
@@ -7,8 +7,6 @@ use Rattle.basis.specs.PickLaws.{both, by_test}
 use Rattle.its_names_numbers.specs.Numbers.{plus_sign, digit0, digit9, is_digit, are_all_digits, value_of, digits_number, number_of}
 use Rattle.its_names_numbers.specs.NumberGrammar.{Digit, AllDigits, Digits, Number, plain, signed}
 use Rattle.its_names_numbers.specs.Parsing.{NumberParsed, DigitsParsed}
-use Rattle.its_names_numbers.specs.declared.ParsedU8.{ParsedU8}
-use Rattle.its_names_numbers.specs.declared.ParsedU8.TheVariants as u8
 
 -- one more digit makes the number ten times as large and adds itself
 pub one_more_digit : (text : List ℕ) (digit : ℕ) → value_of (text ++ (digit ∷ [])) ≡ value_of text * 10 + (digit - digit0)
@@ -39,18 +37,18 @@ some_bytes text n (signed digits p d) = omega (arith, ap length p)
 
 -- what is found of the digits is what is found of the text, with no `+` in front and behind one
 pub plain_parsed : (text : List ℕ) → ((digits : List ℕ) → text ≡ plus_sign ∷ digits → ⊥)
-    → (r : ParsedU8) → DigitsParsed text r → NumberParsed text r
-plain_parsed text no_plus (u8.Number n) d = plain d
-plain_parsed text no_plus u8.NotANumber none = λ n number. refuted n number
+    → (r : Option ℕ) → DigitsParsed text r → NumberParsed text r
+plain_parsed text no_plus (Some n) d = plain d
+plain_parsed text no_plus None none = λ n number. refuted n number
   where
     refuted : (n : ℕ) → Number text n → ⊥
     refuted n (plain d) = none n d
     refuted n (signed digits p d) = no_plus digits p
 
 pub signed_parsed : (text digits : List ℕ) → text ≡ plus_sign ∷ digits
-    → (r : ParsedU8) → DigitsParsed digits r → NumberParsed text r
-signed_parsed text digits p (u8.Number n) d = signed digits p d
-signed_parsed text digits p u8.NotANumber none = λ n number. refuted n number
+    → (r : Option ℕ) → DigitsParsed digits r → NumberParsed text r
+signed_parsed text digits p (Some n) d = signed digits p d
+signed_parsed text digits p None none = λ n number. refuted n number
   where
     refuted : (n : ℕ) → Number text n → ⊥
     refuted n (plain d) = unsigned text digits n d p
@@ -102,23 +100,23 @@ number_parsed (byte ∷ behind) =
     (digits_number (byte ∷ behind)) (digits_parsed (byte ∷ behind)))
 
 -- what a parser finds is what `number_of` says
-pub parsed_number : (text : List ℕ) (r : ParsedU8) → NumberParsed text r → r ≡ number_of text
+pub parsed_number : (text : List ℕ) (r : Option ℕ) → NumberParsed text r → r ≡ number_of text
 parsed_number text r found = same r (number_of text) found (number_parsed text)
   where
-    same : (r s : ParsedU8) → NumberParsed text r → NumberParsed text s → r ≡ s
-    same (u8.Number n) (u8.Number m) p q = ap u8.Number (one_number text n m p q)
-    same (u8.Number n) u8.NotANumber p q = absurd (q n p)
-    same u8.NotANumber (u8.Number m) p q = absurd (p m q)
-    same u8.NotANumber u8.NotANumber p q = refl
+    same : (r s : Option ℕ) → NumberParsed text r → NumberParsed text s → r ≡ s
+    same (Some n) (Some m) p q = ap Some (one_number text n m p q)
+    same (Some n) None p q = absurd (q n p)
+    same None (Some m) p q = absurd (p m q)
+    same None None p q = refl
 
 -- and what `number_of` says is found
-pub found_parsed : (text : List ℕ) (r : ParsedU8) → r ≡ number_of text → NumberParsed text r
+pub found_parsed : (text : List ℕ) (r : Option ℕ) → r ≡ number_of text → NumberParsed text r
 found_parsed text r e = subst (NumberParsed text) (sym e) (number_parsed text)
 
 -- so it answers with the grammar's numbers
-pub number_found : (text : List ℕ) (n : ℕ) → Number text n → number_of text ≡ u8.Number n
-number_found text n number = sym (parsed_number text (u8.Number n) number)
+pub number_found : (text : List ℕ) (n : ℕ) → Number text n → number_of text ≡ Some n
+number_found text n number = sym (parsed_number text (Some n) number)
 
 -- and with no others
-pub found_number : (text : List ℕ) (n : ℕ) → number_of text ≡ u8.Number n → Number text n
-found_number text n e = found_parsed text (u8.Number n) (sym e)
+pub found_number : (text : List ℕ) (n : ℕ) → number_of text ≡ Some n → Number text n
+found_number text n e = found_parsed text (Some n) (sym e)

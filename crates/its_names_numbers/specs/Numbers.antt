@@ -1,8 +1,6 @@
 -- The numbers of a stave name (N5): the number that a list of bytes is, if it is one. `NumberLaws` says that the grammar agrees.
-use Rattle.std.specs.Prelude.{ℕ, ◌+◌, ◌-◌, ◌*◌, ◌^◌, Bool, true, ◌&&◌, List, [], ◌∷◌, eqb, leb, length}
+use Rattle.std.specs.Prelude.{ℕ, ◌+◌, ◌-◌, ◌*◌, ◌^◌, Bool, true, ◌&&◌, List, [], ◌∷◌, eqb, leb, length, Option, Some, None}
 use Rattle.basis.specs.Pick.{pick}
-use Rattle.its_names_numbers.specs.declared.ParsedU8.{ParsedU8}
-use Rattle.its_names_numbers.specs.declared.ParsedU8.TheVariants as u8
 
 -- The bytes `+`, `0` and `9`.
 abbrev pub plus_sign : ℕ
@@ -27,12 +25,12 @@ value_of [] = 0
 value_of (digit ∷ behind) = (digit - digit0) * 10 ^ length behind + value_of behind
 
 -- Digits, at least one, of a value up to 255.
-unfoldable pub digits_number : List ℕ → ParsedU8
-digits_number [] = u8.NotANumber
+unfoldable pub digits_number : List ℕ → Option ℕ
+digits_number [] = None
 digits_number (byte ∷ behind) =
-    pick (are_all_digits (byte ∷ behind) && leb (value_of (byte ∷ behind)) 255) (u8.Number (value_of (byte ∷ behind))) u8.NotANumber
+    pick (are_all_digits (byte ∷ behind) && leb (value_of (byte ∷ behind)) 255) (Some (value_of (byte ∷ behind))) None
 
 -- Digits with or without a `+` in front (N5).
-unfoldable pub number_of : List ℕ → ParsedU8
-number_of [] = u8.NotANumber
+unfoldable pub number_of : List ℕ → Option ℕ
+number_of [] = None
 number_of (byte ∷ behind) = pick (eqb byte plus_sign) (digits_number behind) (digits_number (byte ∷ behind))
