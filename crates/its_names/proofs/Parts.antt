@@ -1,73 +1,65 @@
 -- The first `_` behind the first byte cuts a stave name into its layer and its stave: the grammar has no other cut.
-use mathlib.Core.Path.{◌≡◌, ap, ap₂, sym, ◌∙◌}
-use mathlib.Core.Bool.{true}
-use mathlib.Core.List.{List, [], ◌∷◌, ◌++◌}
-use Prim.Native.Nat.{ℕ, zero, suc, ◌+◌, ◌-◌, ◌<◌}
-use native.Mathlib.Numerals.{add-one}
-use native.Mathlib.Omega.{arith}
-use lib.ListN.{length, get_or, take, drop, length-take}
-use lib.Seq.{split_at, get_or-take, get_or-drop, get_or-append_seam}
-use Rattle.its_names_numbers.specs.NumberGrammar.{Number}
-use Rattle.its_names_numbers.specs.Parsing.{NumberParsed}
-use Rattle.its_names_numbers.specs.declared.ParsedU8.{ParsedU8}
-use Rattle.its_names_numbers.specs.declared.ParsedU8.TheVariants as u8
-use Rattle.its_names_numbers.proofs.Slices.{part, to_end}
+use Rattle.std.specs.Prelude.{◌≡◌, List, ◌∷◌, ◌++◌, ℕ, ◌+◌, ◌-◌, ◌<◌, length, get_or, take, drop, Option, Some, None, is_some}
+use Rattle.std.proofs.Common.{ap, sym, ◌∙◌, arith, length-append, length-take, add-one, true≢false}
+use Rattle.std.proofs.Math.Seq.{split_at, get_or-take, get_or-append_seam}
+use Rattle.its_names_numbers.specs.NumberLaws.{found_number, number_found}
+use Rattle.its_names_numbers.specs.Numbers.{number_of}
+use Rattle.its_names_numbers.proofs.Slices.{to_end}
+use Rattle.its_names.specs.Parsing.{FirstUnderscore, NameParsed}
 use Rattle.its_names.specs.StaveNames.{underscore}
 use Rattle.its_names.specs.StaveNameGrammar.{Named}
-use Rattle.its_names.specs.StaveNameLaws.{Without, numbers_of_cut, length_named}
-use Rattle.its_names.specs.Parsing.{NameParsed, StartParsed, both_numbers, FirstUnderscore}
+use Rattle.its_names.specs.StaveNameLaws.{Without, numbers_of_cut}
 
-to_end_behind : (first : ℕ) (rest : List ℕ) (j : ℕ) → part (suc j + 1) (suc (length rest)) (first ∷ rest) ≡ drop (suc j) rest
-to_end_behind first rest j = to_end (suc j + 1) (first ∷ rest) ∙ ap (λ (n : ℕ). drop n (first ∷ rest)) (add-one (suc j))
+some_none : (n : ℕ) → Some n ≡ None → ⊥
+some_none n e = true≢false (ap (λ (o : Option ℕ). is_some o) e)
 
-cut : (name : List ℕ) (k : ℕ) → FirstUnderscore name k → (k ≡ length name → ⊥)
-    → name ≡ get_or name 0 0 ∷ (part 1 k name ++ (underscore ∷ part (k + 1) (length name) name))
-cut [] k u found = absurd (omega arith)
-cut (first ∷ rest) zero u found = absurd (omega arith)
-cut (first ∷ rest) (suc j) u found =
-    let below : suc j < suc (length rest) = omega arith in
-    let place : j ≡ suc j - 1 = omega arith in
-    ap (λ (t : List ℕ). first ∷ t)
-    (split_at rest j 0 (omega arith)
-    ∙ ap (λ (x : ℕ). take j rest ++ (x ∷ drop (suc j) rest)) (u.stands below)
-    ∙ ap₂ (λ (n : ℕ) (t : List ℕ). take n rest ++ (underscore ∷ t)) place (sym (to_end_behind first rest j)))
+-- without a `_` behind the first byte it is no name
+pub some_underscore : {name numbers : List ℕ} {first : ℕ} → name ≡ first ∷ numbers → Without underscore numbers → NameParsed name None
+some_underscore {numbers = numbers} e none layer stave r =
+    let tail : numbers ≡ r.layer_text ++ (underscore ∷ r.stave_text) = ap (λ (t : List ℕ). drop 1 t) (sym e ∙ r.parts) in
+    none (length r.layer_text) (omega (arith, ap length tail, length-append r.layer_text (underscore ∷ r.stave_text)))
+    (ap (λ (t : List ℕ). get_or t (length r.layer_text) 0) tail ∙ get_or-append_seam r.layer_text underscore r.stave_text 0)
 
-clean : (name : List ℕ) (k : ℕ) → FirstUnderscore name k → Without underscore (part 1 k name)
-clean name k u i below e =
-    let within : i < k - 1 = omega (arith, length-take (k - 1) (drop 1 name)) in
-    u.none_before (1 + i) (omega arith) (omega arith)
-    (sym (get_or-take (k - 1) (drop 1 name) i 0 within ∙ get_or-drop 1 name i 0) ∙ e)
+-- The name is cut behind its first byte, and what stands there at its first `_`.
+module _ {name numbers : List ℕ} {first k : ℕ} (parts : name ≡ first ∷ numbers) (u : FirstUnderscore numbers k) where
+  abbrev before_it : List ℕ
+  before_it = take k numbers
 
-named_parts : (name : List ℕ) (k layer stave : ℕ) → FirstUnderscore name k → (k ≡ length name → ⊥) → Named name layer stave
-    → Number (part 1 k name) layer × Number (part (k + 1) (length name) name) stave
-named_parts name k layer stave u found r = numbers_of_cut name _ layer stave _ _ r (cut name k u found) (clean name k u)
+  abbrev behind_it : List ℕ
+  behind_it = take (length numbers - (k + 1)) (drop (k + 1) numbers)
 
--- what was found of the two parts is what there is of the name
-pub parts_parsed : (name : List ℕ) (k : ℕ) → StartParsed name true → FirstUnderscore name k → (k ≡ length name → ⊥)
-    → (layer stave : ParsedU8) → NumberParsed (part 1 k name) layer → NumberParsed (part (k + 1) (length name) name) stave
-    → NameParsed name (both_numbers layer stave)
-parts_parsed name k start u found (u8.Number layer) (u8.Number stave) l s = record {
-  first = get_or name 0 0;
-  layer_text = part 1 k name;
-  stave_text = part (k + 1) (length name) name;
-  parts = cut name k u found;
-  below_0x80 = start.1;
-  but_underscore = start.2;
-  a_layer = l;
-  a_stave = s;
-}
-parts_parsed name k start u found (u8.Number layer) u8.NotANumber l none = λ layer stave r. none stave (named_parts name k layer stave u found r).1
-parts_parsed name k start u found u8.NotANumber stave none s = λ layer stave r. none layer (named_parts name k layer stave u found r).0
+  cut : name ≡ first ∷ (before_it ++ (underscore ∷ behind_it))
+  cut =
+      parts
+      ∙ ap (λ (t : List ℕ). first ∷ t)
+      (split_at numbers k 0 u.within
+      ∙ (λ i. before_it ++ (u.stands i ∷ drop (sym (add-one k) i) numbers))
+      ∙ ap (λ (t : List ℕ). before_it ++ (underscore ∷ t)) (sym (to_end (k + 1) numbers)))
 
-pub first_byte : (name : List ℕ) (layer stave : ℕ) → Named name layer stave
-    → (get_or name 0 0 < 0x80) × (get_or name 0 0 ≡ underscore → ⊥)
-first_byte name layer stave r =
-    let same : get_or name 0 0 ≡ r.first = ap (λ (t : List ℕ). get_or t 0 0) r.parts in
-    (omega (arith, r.below_0x80), λ e. r.but_underscore (sym same ∙ e))
+  clean : Without underscore before_it
+  clean i below e =
+      let before : i < k = omega (arith, below, length-take k numbers) in
+      u.none_before i before (sym (get_or-take k numbers i 0 before) ∙ e)
 
-pub has_underscore : (name : List ℕ) (k layer stave : ℕ) → FirstUnderscore name k → Named name layer stave → k ≡ length name → ⊥
-has_underscore name k layer stave u r e =
-    let at : ℕ = length r.layer_text in
-    let whole = length_named name layer stave r in
-    u.none_before (suc at) (omega arith) (omega arith)
-    (ap (λ (t : List ℕ). get_or t (suc at) 0) r.parts ∙ get_or-append_seam r.layer_text underscore r.stave_text 0)
+  -- without a layer before it, or a stave behind it, that is no name ..
+  pub no_layer : None ≡ number_of before_it → NameParsed name None
+  no_layer none layer stave r =
+      some_none _ (sym (number_found _ layer (numbers_of_cut name first layer stave _ _ r cut clean).0) ∙ sym none)
+
+  pub no_stave : None ≡ number_of behind_it → NameParsed name None
+  no_stave none layer stave r =
+      some_none _ (sym (number_found _ stave (numbers_of_cut name first layer stave _ _ r cut clean).1) ∙ sym none)
+
+  -- .. and with both it is one
+  pub is_named : {layer stave : ℕ} → first < 0x80 → (first ≡ underscore → ⊥) → Some layer ≡ number_of before_it
+      → Some stave ≡ number_of behind_it → Named name layer stave
+  is_named low other l s = record {
+    first = first;
+    layer_text = before_it;
+    stave_text = behind_it;
+    parts = cut;
+    below_0x80 = low;
+    but_underscore = other;
+    a_layer = found_number _ _ (sym l);
+    a_stave = found_number _ _ (sym s);
+  }

@@ -1,6 +1,6 @@
 -- Laws of stave names: `named_fee` gives the name of each stave that there is its FEE id, which has its layer and its stave, and refuses
 -- anything else; the grammar is unambiguous; and names at the edges with their answers.
-use Rattle.std.specs.Prelude.{◌≡◌, refl, Bool, true, false, ◌&&◌, not, List, [], ◌∷◌, ◌++◌, ℕ, zero, suc, ◌+◌, ◌≤◌, ◌<◌, eqb, leb, ltb, length, get_or, drop}
+use Rattle.std.specs.Prelude.{◌≡◌, refl, Bool, true, false, ◌&&◌, not, List, [], ◌∷◌, ◌++◌, ℕ, zero, suc, ◌+◌, ◌≤◌, ◌<◌, eqb, leb, ltb, length, get_or, drop, Option, Some, None}
 use Rattle.std.proofs.Common.{ap, ap₂, sym, ◌∙◌, subst, arith, eq-eqb, ne_eqb, eqb-true, le-leb, leb-true, lt-ltb, ltb-true, length-append}
 use Rattle.std.proofs.Math.Bool.{and-false}
 use Rattle.std.proofs.lemmas.Bool.{eqb-false, lt-leb, not-true}
@@ -12,8 +12,6 @@ use Rattle.rdh.specs.Subfields.{layer_of, stave_of, uplink_of}
 use Rattle.its_names_numbers.specs.Numbers.{plus_sign, are_all_digits, value_of, digits_number, number_of}
 use Rattle.its_names_numbers.specs.NumberGrammar.{Digits, Number, plain, signed}
 use Rattle.its_names_numbers.specs.NumberLaws.{one_number, some_bytes, number_found, found_number}
-use Rattle.its_names_numbers.specs.declared.ParsedU8.{ParsedU8}
-use Rattle.its_names_numbers.specs.declared.ParsedU8.TheVariants as u8
 use Rattle.its_names.specs.StaveNames.{underscore, before, behind, starts_name, fee_of_stave, fee_of_numbers, named_fee}
 use Rattle.its_names.specs.StaveNameGrammar.{Named, NamesStave}
 
@@ -150,12 +148,12 @@ by_answer P (first ∷ rest) given refused =
         given layer stave (record { form = form; layer_there = leb-true _ _ tests.0; stave_there = leb-true _ _ tests.1 }))
         (λ above. refused)
 
-    by_numbers : starts_name first ≡ true → (layer stave : ParsedU8) → number_of (before underscore rest) ≡ layer
+    by_numbers : starts_name first ≡ true → (layer stave : Option ℕ) → number_of (before underscore rest) ≡ layer
         → number_of (behind underscore rest) ≡ stave → P (fee_of_numbers layer stave)
-    by_numbers starts (u8.Number layer) (u8.Number stave) l s =
+    by_numbers starts (Some layer) (Some stave) l s =
         by_limits layer stave (name_of_parts first rest layer stave starts (found_number _ layer l) (found_number _ stave s))
-    by_numbers starts (u8.Number layer) u8.NotANumber l s = refused
-    by_numbers starts u8.NotANumber stave l s = refused
+    by_numbers starts (Some layer) None l s = refused
+    by_numbers starts None stave l s = refused
 
 -- refusal 8 is no FEE id
 refused_no_fee : (id : ℕ) → refuses 8 [] ≡ gives id → ⊥
@@ -186,6 +184,9 @@ named_parts name id layer stave form e =
 -- what is the name of no stave that there is is refused
 pub other_refused : (name : List ℕ) → ((layer stave : ℕ) → NamesStave name layer stave → ⊥) → named_fee name ≡ refuses 8 []
 other_refused name none = by_answer (λ a. a ≡ refuses 8 []) name (λ layer stave r. absurd (none layer stave r)) refl
+
+pub unnamed_refused : (name : List ℕ) → ((layer stave : ℕ) → Named name layer stave → ⊥) → named_fee name ≡ refuses 8 []
+unnamed_refused name none = other_refused name (λ layer stave r. none layer stave r.form)
 
 -- L9_70 names no stave: there is no layer 9 (E7)
 pub l9_70_refused : named_fee (76 ∷ 57 ∷ 95 ∷ 55 ∷ 48 ∷ []) ≡ refuses 8 []

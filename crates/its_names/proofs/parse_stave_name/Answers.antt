@@ -1,27 +1,19 @@
--- The first `_` behind the first byte is the only place where the name can be cut, and each part is parsed by itself.
-use mathlib.Core.Path.{sym, subst}
-use mathlib.Core.Bool.{true}
-use Rattle.its_names_numbers.specs.NumberLaws.{found_parsed}
-use Rattle.its_names.specs.Parsing.{NameParsed, StartParsed}
-use Rattle.its_names.proofs.Parts.{has_underscore, parts_parsed}
+-- The first `_` behind the first byte is the only place where the name can be cut, and each part is a number by itself, or none.
+use Rattle.std.proofs.Common.{arith}
+use Rattle.its_names.proofs.Parts.{is_named, no_layer, no_stave, some_underscore}
 use Rattle.its_names.proofs.parse_stave_name.Goals as goal
 
-well-started : (c : goal.Else-not-starts_well) → StartParsed c.args.name.now true
-well-started c = subst (StartParsed _) c.if-not-starts_well.false c.starts_well.ensures
+pub returns-in_err-mid : goal.returns-in_err-mid
+returns-in_err-mid c = rw c.from_residual-in_err-mid.ensures (some_underscore c.in_ok-first.ensures.cases.0 c.in_err-mid.ensures)
 
-pub returns-then-not-starts_well : goal.returns-then-not-starts_well
-returns-then-not-starts_well c = subst (StartParsed _) c.if-not-starts_well.true c.starts_well.ensures
+pub returns-in_err-layer : goal.returns-in_err-layer
+returns-in_err-layer c =
+    rw c.from_residual-in_err-layer.ensures (no_layer c.in_ok-first.ensures.cases.0 c.in_ok-mid.ensures c.in_err-layer.ensures)
 
-pub underscore_place-mid-requires : goal.underscore_place-mid-requires
-underscore_place-mid-requires c = (well-started c).0
-
-pub returns-then-mid-name : goal.returns-then-mid-name
-returns-then-mid-name c = λ layer stave r. has_underscore _ _ layer stave c.underscore_place-mid.ensures r c.if-mid-name.true
+pub returns-in_err-stave : goal.returns-in_err-stave
+returns-in_err-stave c =
+    rw c.from_residual-in_err-stave.ensures (no_stave c.in_ok-first.ensures.cases.0 c.in_ok-mid.ensures c.in_err-stave.ensures)
 
 pub returns : goal.returns
 returns c =
-    let layer = c.parse_u8-layer in
-    let stave = c.parse_u8-stave in
-    subst (NameParsed _) (sym c.both_numbers.ensures)
-    (parts_parsed _ _ (subst (StartParsed _) c.if-not-starts_well.false c.starts_well.ensures) c.underscore_place-mid.ensures c.if-mid-name.false
-    layer.result stave.result (found_parsed _ layer.result layer.ensures) (found_parsed _ stave.result stave.ensures))
+    is_named c.in_ok-first.ensures.cases.0 c.in_ok-mid.ensures (omega arith) (λ e. omega (arith, e)) c.in_ok-layer.ensures c.in_ok-stave.ensures
