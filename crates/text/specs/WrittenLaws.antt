@@ -1,11 +1,10 @@
 -- Laws of whole texts: measured where the longest one would not fit, then refused, or put where there is room.
-use Rattle.std.specs.Prelude.{ℕ, ◌≤◌, ◌<◌, ◌+◌, ◌≡◌, List, [], ◌∷◌, ◌++◌, pos, length, drop}
+use Rattle.std.specs.Prelude.{ℕ, ◌≤◌, ◌<◌, ◌+◌, ◌≡◌, List, [], ◌∷◌, ◌++◌, pos, length, drop, Ok, Err}
 use Rattle.std.proofs.Common.{ap, sym, ◌∙◌, le_trans, arith, le-leb}
 use Rattle.std.proofs.lemmas.Bool.{lt-leb}
 use Rattle.std.proofs.lemmas.List.Edits.{sets-eq}
 use Rattle.basis.specs.PickLaws.{on, off}
 use Rattle.basis.specs.Refusals.Answer.{gives, refuses}
-use Rattle.text.specs.declared.Written.TheVariants.{Text, TooShort}
 use Rattle.text.specs.Put.{Put, last_place}
 use Rattle.text.specs.PutLaws.{measured}
 use Rattle.text.specs.Written.{Needed, Writes, written, overwritten}
@@ -21,7 +20,7 @@ by_measure room p small =
     record { fits = λ enough. omega arith; exact = λ below. is }
 
 -- a text that is longer than the buffer is refused with its length, and nothing is written
-pub too_short : {t : List ℕ} {need : ℕ} (l : List ℕ) → Needed t (length l) need → length l < need → Writes t l (TooShort need) l
+pub too_short : {t : List ℕ} {need : ℕ} (l : List ℕ) → Needed t (length l) need → length l < need → Writes t l (Err (record { needed = need })) l
 unfolding written overwritten
 too_short {t} {need} l needed short =
     let is = needed.exact short in
@@ -32,7 +31,7 @@ too_short {t} {need} l needed short =
     }
 
 -- one that fits stands at the buffer's start, and what is behind it is as it was
-pub fitting : {t l m : List ℕ} {j : ℕ} → length t ≤ length l → Put l 0 t m j → Writes t l (Text j) m
+pub fitting : {t l m : List ℕ} {j : ℕ} → length t ≤ length l → Put l 0 t m j → Writes t l (Ok j) m
 unfolding written overwritten
 fitting {t} {l} {m} {j} fits p =
     let is : j ≡ length t = omega (arith, p.next, p.room) in

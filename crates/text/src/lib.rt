@@ -3,27 +3,29 @@
 // measures it.
 #![tactic(auto)]
 
-ghost use Rattle.std.specs.Prelude.{◌≡◌, [], ◌∷◌, ◌+◌, min, replicate};
-ghost use Rattle.text.specs.Put.{Put, last_place};
+ghost use Rattle.std.specs.Prelude.{◌≡◌, [], ◌∷◌, replicate};
+ghost use Rattle.text.specs.Put.{Put};
 
-// What a function answers that writes a whole text: how many bytes it wrote, or, where the buffer is too short and nothing
-// was written, how many it needs.
-#[derive(Clone, Copy)]
-pub enum Written {
-    Text(usize),
-    TooShort(usize),
+use std::error::Error;
+use std::fmt;
+
+// Why a function refuses that writes a whole text: the buffer is shorter than the text, which needs this many bytes. Nothing is written then.
+#[derive(Clone, Copy, Debug, PartialEq, Eq)]
+pub struct TooShort {
+    pub needed: usize,
 }
 
-// The place `n` bytes on; one beyond the largest `usize` stays there.
-fn after(at: usize, n: usize) -> usize
-    ensures { result ≡ min (at + n) last_place }
-{
-    if n <= usize::MAX - at {
-        at + n
-    } else {
-        usize::MAX
+impl fmt::Display for TooShort {
+    fn fmt<W: fmt::Write>(&self, f: &mut fmt::Formatter<W>) -> fmt::Result {
+        write!(
+            f,
+            "the buffer is too short: the text needs {} bytes",
+            self.needed
+        )
     }
 }
+
+impl Error for TooShort {}
 
 // One byte.
 pub fn put_byte(out: &mut [u8], at: usize, b: u8) -> usize
@@ -31,22 +33,19 @@ pub fn put_byte(out: &mut [u8], at: usize, b: u8) -> usize
 {
     if at < out.len() {
         out[at] = b;
-        return at + 1;
     }
-    after(at, 1)
+    at.saturating_add(1)
 }
 
 // A byte string.
+#[tactic(auto, using(crate::proofs::Parts::put_part))]
 pub fn put_bytes(out: &mut [u8], at: usize, s: &[u8]) -> usize
     ensures { Put out.old at s.now out.new result }
 {
-    let mut next = at;
-    let mut i = 0;
-    while i < s.len() {
-        let b = s[i];
-        next = put_byte(out, next, b);
-        i += 1;
-    }
+    let next = at.saturating_add(s.len());
+    let start = at.min(out.len());
+    let stop = next.min(out.len());
+    out[start..stop].copy_from_slice(&s[..stop - start]);
     next
 }
 
@@ -54,12 +53,9 @@ pub fn put_bytes(out: &mut [u8], at: usize, s: &[u8]) -> usize
 pub fn put_blanks(out: &mut [u8], at: usize, n: usize) -> usize
     ensures { Put out.old at (replicate n 32) out.new result }
 {
-    let end = after(at, n);
-    let stop = numbers::least(end, out.len());
-    let mut i = at;
-    while i < stop {
-        out[i] = b' ';
-        i += 1;
-    }
+    let end = at.saturating_add(n);
+    let start = at.min(out.len());
+    let stop = out.len().min(end);
+    out[start..stop].fill(b' ');
     end
 }
