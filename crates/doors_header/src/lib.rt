@@ -8,16 +8,15 @@ ghost use Rattle.text.specs.Written.{overwritten, written};
 ghost use Rattle.doors_header_structs.specs.Plain.{header_of, plain_written, refusal_of};
 ghost use Rattle.doors_header_structs.specs.Replies.{parts_of, plain_decoded};
 
-use doors_header_structs::plain::{PlainHeader, PlainText, header_of, plain_text};
-use doors_header_structs::replies::{
-    PlainDecoded, PlainHeaderParts, encode_refusal, plain_decoded,
-};
+use doors_header_structs::plain::{PlainHeader, PlainText};
+use doors_header_structs::replies::{PlainDecoded, PlainHeaderParts, encode_refusal};
+use rdh::rdh_cru::RdhCru;
 
 // The header in the first 64 bytes.
 pub fn kesarimbu_decode(bytes: &[u8]) -> PlainDecoded
     ensures { result ≡ plain_decoded (decode bytes.now) }
 {
-    plain_decoded(serde_rdh::from_buf(bytes))
+    PlainDecoded::from(serde_rdh::from_buf(bytes))
 }
 
 // Writes a header to the first 64 bytes.
@@ -25,34 +24,28 @@ pub fn kesarimbu_encode(header: PlainHeader, out: &mut [u8]) -> u32
     ensures answer { result ≡ refusal_of (encode out.old) }
     ensures left { out.new ≡ encoded_into (header_of header) out.old }
 {
-    encode_refusal(serde_rdh::to_byte_slice(header_of(header), out))
+    encode_refusal(serde_rdh::to_byte_slice(RdhCru::from(header), out))
 }
 
 // Whether two headers have the same bytes.
 pub fn kesarimbu_equal(header: PlainHeader, other: PlainHeader) -> bool
     ensures { Equal (header_of header) (header_of other) result }
 {
-    serde_rdh::eq(header_of(header), header_of(other))
+    serde_rdh::eq(RdhCru::from(header), RdhCru::from(other))
 }
 
 // The fields of a header that share a number with others, and whether it has a physics trigger.
 pub fn kesarimbu_parts(header: PlainHeader) -> PlainHeaderParts
     ensures { result ≡ parts_of (header_of header) }
 {
-    let rdh = header_of(header);
-    let bc_reserved = rdh.rdh1.reserved0();
-    let bc = rdh.rdh1.bc();
-    let cru_id = rdh.cru_id();
-    let dw = rdh.dw();
-    let data_format = rdh.data_format();
-    let is_pht_trigger = rdh.rdh2.is_pht_trigger();
+    let rdh = RdhCru::from(header);
     PlainHeaderParts {
-        bc_reserved,
-        bc,
-        cru_id,
-        dw,
-        data_format,
-        is_pht_trigger,
+        bc_reserved: rdh.rdh1.reserved0(),
+        bc: rdh.rdh1.bc(),
+        cru_id: rdh.cru_id(),
+        dw: rdh.dw(),
+        data_format: rdh.data_format(),
+        is_pht_trigger: rdh.rdh2.is_pht_trigger(),
     }
 }
 
@@ -61,5 +54,5 @@ pub fn kesarimbu_row(header: PlainHeader, out: &mut [u8]) -> PlainText
     ensures answer { result ≡ plain_written (written (row_text (header_of header)) out.old) }
     ensures left { out.new ≡ overwritten (row_text (header_of header)) out.old }
 {
-    plain_text(rdh_row::row(header_of(header), out))
+    PlainText::from(rdh_row::row(RdhCru::from(header), out))
 }
