@@ -27,6 +27,7 @@ fn sanity_check_memory_size(memory_size: u16) -> bool
 
 // What becomes of a header. `first`: it is the first of its load; `full`: its FEE id is to be counted, is new, and has no place.
 // A first header is counted before its offset is tested, a later one after.
+#[tactic(auto, unfolding(scan_cdp::specs::Outcomes::outcome_of))]
 pub fn outcome_of(set: Settings, first: bool, full: bool, rdh: RdhCru) -> Outcome
     ensures { result ≡ outcome_of set first full rdh }
 {
@@ -43,6 +44,7 @@ pub fn outcome_of(set: Settings, first: bool, full: bool, rdh: RdhCru) -> Outcom
 }
 
 // What the filter and the memory size make of a header whose offset is good.
+#[tactic(auto, unfolding(scan_cdp::specs::Outcomes::filtered))]
 fn filtered(set: Settings, rdh: RdhCru) -> Outcome
     ensures { result ≡ filtered set rdh }
 {
@@ -60,38 +62,20 @@ fn filtered(set: Settings, rdh: RdhCru) -> Outcome
 pub fn is_counted(first: bool, outcome: Outcome) -> bool
     ensures { result ≡ is_counted first outcome }
 {
-    match outcome {
-        Outcome::FeeIdsFull => true,
-        Outcome::BadOffset => first,
-        Outcome::MemorySize => true,
-        Outcome::Passed => true,
-        Outcome::HandedOut => true,
-    }
+    first | (outcome != Outcome::BadOffset)
 }
 
 // Whether the header matched the filter and came to the test of its memory size.
 pub fn is_match(outcome: Outcome) -> bool
     ensures { result ≡ matched outcome }
 {
-    match outcome {
-        Outcome::FeeIdsFull => false,
-        Outcome::BadOffset => false,
-        Outcome::MemorySize => true,
-        Outcome::Passed => false,
-        Outcome::HandedOut => true,
-    }
+    matches!(outcome, Outcome::MemorySize | Outcome::HandedOut)
 }
 
 pub fn hands_out(outcome: Outcome) -> bool
     ensures { result ≡ hands_out outcome }
 {
-    match outcome {
-        Outcome::FeeIdsFull => false,
-        Outcome::BadOffset => false,
-        Outcome::MemorySize => false,
-        Outcome::Passed => false,
-        Outcome::HandedOut => true,
-    }
+    outcome == Outcome::HandedOut
 }
 
 // Whether a header is the first of its load.
