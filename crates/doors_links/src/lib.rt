@@ -7,8 +7,9 @@ ghost use Rattle.link_continuity.specs.Links.{yields_on};
 ghost use Rattle.doors_header_structs.specs.Plain.{header_of};
 ghost use Rattle.doors_links.specs.Plain.{plain_link_check};
 
-use doors_header_structs::plain::{PlainHeader, header_of};
+use doors_header_structs::plain::PlainHeader;
 use link_continuity::{LINKS, LinkCheck, check_link};
+use rdh::rdh_cru::RdhCru;
 
 // Which fields of the header are not as they must be, and how far its packet counter is ahead of the expected one.
 #[repr(C)]
@@ -44,7 +45,7 @@ pub fn kesarimbu_check_link(
         (header_of header) }
 {
     let check = check_link(
-        header_of(header),
+        RdhCru::from(header),
         seen,
         packet_counters,
         pages_counters,

@@ -9,7 +9,8 @@ ghost use Rattle.doors_verdict.specs.Plain.{validator_of};
 ghost use Rattle.doors_verdict.specs.Replies.{checked, plain_checked};
 
 use crate::plain::PlainValidator;
-use doors_header_structs::plain::{BUFFER_TOO_SHORT, NO_REFUSAL, PlainHeader, header_of};
+use doors_header_structs::plain::{BUFFER_TOO_SHORT, NO_REFUSAL, PlainHeader};
+use rdh::rdh_cru::RdhCru;
 use validators::{RdhCruSanityValidator, SanityCheck, Verdict};
 
 pub mod plain;
@@ -34,7 +35,7 @@ pub fn kesarimbu_check(
     ensures left { text.new ≡ overwritten (text_of (validator_of validator) (header_of header)) text.old }
 {
     let validator = RdhCruSanityValidator::from(validator);
-    PlainChecked::from(validator.sanity_check(header_of(header), text))
+    PlainChecked::from(validator.sanity_check(RdhCru::from(header), text))
 }
 
 impl From<SanityCheck> for PlainChecked {
