@@ -5,38 +5,15 @@ ghost use Rattle.std.specs.Prelude.{◌≡◌};
 ghost use Rattle.its_names.specs.StaveNames.{name_answer, named_fee};
 ghost use Rattle.filter_names.specs.StaveSetting.{stave_set};
 
-use filter::{FilterOpt, Option16};
-use its_names::StaveFeeId;
+use filter::FilterOpt;
+use its_names::{NotAStaveName, layer_stave_string_to_feeid};
 
-// What is answered to the name of a stave, and the filters from then on.
-#[derive(Clone, Copy)]
-pub struct StaveSetting {
-    pub named: StaveFeeId,
-    pub filter: FilterOpt,
-}
-
-// Sets the filter by stave to the one that is named, and leaves the other filters. A name that is refused sets nothing.
-pub fn set_filter_its_stave(opt: FilterOpt, name: &[u8]) -> StaveSetting
-    ensures { (name_answer result.named ≡ named_fee name.now) × (result.filter ≡ stave_set (named_fee name.now) opt) }
+// Sets the filter by stave to the one that is named, which it answers, and leaves the other filters. A name that is refused sets nothing.
+pub fn set_filter_its_stave(opt: &mut FilterOpt, name: &[u8]) -> Result<u16, NotAStaveName>
+    ensures named { name_answer result ≡ named_fee name.now }
+    ensures sets { opt.new ≡ stave_set (named_fee name.now) opt.old }
 {
-    let named = its_names::layer_stave_string_to_feeid(name);
-    StaveSetting {
-        named,
-        filter: stave_set(opt, named),
-    }
-}
-
-fn stave_set(opt: FilterOpt, named: StaveFeeId) -> FilterOpt
-    ensures { result ≡ stave_set (name_answer named) opt }
-{
-    let filter_link = opt.filter_link;
-    let filter_fee = opt.filter_fee;
-    match named {
-        StaveFeeId::FeeId(id) => FilterOpt {
-            filter_link,
-            filter_fee,
-            filter_its_stave: Option16::Some(id),
-        },
-        StaveFeeId::NotAStaveName => opt,
-    }
+    let id = layer_stave_string_to_feeid(name)?;
+    opt.filter_its_stave = Some(id);
+    Ok(id)
 }
