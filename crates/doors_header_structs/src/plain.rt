@@ -8,7 +8,7 @@ use rdh::rdh0::{FeeId, Rdh0};
 use rdh::rdh1::{BcReserved, Rdh1};
 use rdh::rdh2::Rdh2;
 use rdh::rdh3::Rdh3;
-use text::Written;
+use text::TooShort;
 
 // The fields of a header in the order of its bytes.
 #[repr(C)]
@@ -124,17 +124,17 @@ impl From<RdhCru> for PlainHeader {
     }
 }
 
-impl From<Written> for PlainText {
-    fn from(written: Written) -> PlainText
+impl From<Result<usize, TooShort>> for PlainText {
+    fn from(written: Result<usize, TooShort>) -> PlainText
         ensures { result ≡ plain_written (answer written) }
     {
         match written {
-            Written::Text(length) => PlainText {
+            Ok(length) => PlainText {
                 length,
                 refusal: NO_REFUSAL,
             },
-            Written::TooShort(length) => PlainText {
-                length,
+            Err(short) => PlainText {
+                length: short.needed,
                 refusal: BUFFER_TOO_SHORT,
             },
         }
