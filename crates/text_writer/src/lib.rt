@@ -6,6 +6,10 @@ ghost use Rattle.std.specs.Prelude.{◌≡◌, [], ◌∷◌, suc, length, repli
 ghost use Rattle.text_numbers.specs.Numerals.{decimal, hex, left, right};
 ghost use Rattle.text_writer.specs.Writer.{begun, extended};
 
+pub use whole::{Text, write_text};
+
+mod whole;
+
 #[derive(Drop)]
 pub struct TextWriter<'a> {
     pub buf: &'a mut [u8],
