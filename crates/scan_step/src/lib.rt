@@ -1,159 +1,161 @@
-// One examination, on the links, trigger counts and FEE ids where they stand. Whether a link is listed twice is not asked here: a load asks it
-// once.
+// One examination, on the scan and what is lent to it. Whether a link is listed twice is not asked here: a load asks it once.
 #![tactic(auto)]
 
-ghost use Rattle.std.specs.Prelude.{◌≡◌, length};
-ghost use Rattle.scan_cdp.specs.Steps.{numbers_unusable, with_lent};
+ghost use Rattle.std.specs.Prelude.{◌≡◌, ◌&&◌, length};
+ghost use Rattle.scan_cdp.specs.Scans.{SameScan, state_of};
+ghost use Rattle.scan_cdp.specs.Outcomes.{header_fee_id};
+ghost use Rattle.scan_cdp.specs.Steps.{numbers_unusable, outcome_in};
 ghost use Rattle.scan_cdp.specs.Windows.{examined_unless};
 ghost use Rattle.scan_replies.specs.Examinations.{examination_of};
-ghost use Rattle.scan_step.specs.Headers.{HeaderHere, RepliesFor, Stepped};
+ghost use Rattle.stats.specs.Lists.{full};
+ghost use Rattle.scan_step.specs.Headers.{HeaderHere, RepliesFor, Stepped, listed};
 
 use crate::triggers::count_trigger;
 use rdh::rdh_cru::{RDH_CRU_SIZE_BYTES, RdhCru};
-use scan_cdp::{BytePlace, Counts, LoadCdp, Marks, Outcome, Position, Progress, Refusal, Settings};
-use scan_lists::{list_fee_id, list_link};
-use scan_replies::{Examination, WANTED_HEADER, lacking, unchanged};
+use scan_cdp::{
+    BytePlace, Counts, LoadCdp, Marks, Outcome, Position, Progress, Refusal, Scan, Window,
+};
+use scan_lists::list_if_due;
+use scan_replies::{Examination, WANTED_HEADER, lacking};
 use scan_window::{numbers_unusable, outside, start_in};
-use serde_rdh::FromBuf;
-use trigger_stats::COUNTERS;
 
 mod triggers;
 
-// Examines the header at the byte place, on links, trigger counts and FEE ids where they stand, with refusal 6 by the numbers alone. The caller
-// has asked whether a link is listed twice; a step leaves that as it was.
-pub fn take_step(
-    set: Settings,
-    progress: Progress,
-    links: &mut [u8],
-    triggers: &mut [u32; COUNTERS],
-    fee_ids: &mut [u16],
-    window: &[u8],
-    first: BytePlace,
-    last: bool,
-) -> Examination
-    ensures { examination_of result links.new triggers.new fee_ids.new
-        ≡ examined_unless (numbers_unusable progress (length links.old) (length fee_ids.old)) set
-        (with_lent progress links.old triggers.old) fee_ids.old window.now first.0 last }
+// Examines the header at the byte place, with refusal 6 by the numbers alone. The caller has asked whether a link is listed twice; a step leaves
+// that as it was.
+pub fn take_step(scan: &mut Scan, window: Window) -> Examination
+    ensures examined { examination_of result scan.new
+        ≡ examined_unless (numbers_unusable scan.old.progress (length scan.old.links.now) (length scan.old.fee_ids.now))
+        scan.old.set (state_of scan.old) scan.old.fee_ids.now window.entry.bytes.now window.entry.first.0 window.entry.last }
+    ensures same { SameScan scan.old scan.new }
 {
-    let place = progress.place;
-    if numbers_unusable(progress, links.len(), fee_ids.len()) {
-        return unchanged(progress, LoadCdp::Refused(Refusal::Unusable));
+    if numbers_unusable(scan) {
+        return Examination::unmarked(Err(Refusal::Unusable));
     }
-    if outside(place, first, window.len()) {
-        return unchanged(progress, LoadCdp::Refused(Refusal::Unusable));
+    if outside(scan.progress.place, window) {
+        return Examination::unmarked(Err(Refusal::Unusable));
     }
-    let start = start_in(place.0 - first.0, window.len());
-    match serde_rdh::from_buf(&window[start..]) {
-        FromBuf::TooShort => lacking(progress, first.0 + window.len() as u64, last),
-        FromBuf::Rdh(rdh) => header_step(
-            set,
-            progress,
-            links,
-            triggers,
-            fee_ids,
-            rdh,
-            start,
-            window.len() - start,
-            last,
-        ),
-    }
+    let start = start_in(scan.progress.place, window);
+    let rest = &window.bytes[start..];
+    let Ok(rdh) = serde_rdh::from_buf(rest) else {
+        return lacking(
+            scan,
+            window.first.0 + window.bytes.len() as u64,
+            window.last,
+        );
+    };
+    let left = rest.len();
+    Header { rdh, start, left }.step(scan, window.last)
 }
 
-// Examines a header whose 64 bytes start at `start` in the window, with `left` bytes from there on. What becomes of it is decided first, so
-// that a want leaves no count and no place of the lists written.
-fn header_step(
-    set: Settings,
-    progress: Progress,
-    links: &mut [u8],
-    triggers: &mut [u32; COUNTERS],
-    fee_ids: &mut [u16],
+// A header that is looked at: its 64 bytes start at `start` in the window, with `left` bytes from there on.
+#[derive(Clone, Copy)]
+struct Header {
     rdh: RdhCru,
     start: usize,
     left: usize,
-    last: bool,
-) -> Examination
-    requires { HeaderHere progress start left }
-    ensures { RepliesFor set progress links.old triggers.old fee_ids.old rdh start left last
-        (examination_of result links.new triggers.new fee_ids.new) }
-{
-    let load = progress.load;
-    let first = outcome::is_first(load);
-    let full = set.stats & stats::fee_ids_full(fee_ids, progress.fee_ids_used, rdh.rdh0.fee_id.0);
-    let outcome = outcome::outcome_of(set, first, full, rdh);
-    if !last & outcome_payload::is_cut(set.skip_payload, outcome, rdh, left) {
-        let size = WANTED_HEADER + rdh.payload_size() as u64;
-        return unchanged(progress, LoadCdp::Want(BytePlace(progress.place.0), size));
-    }
-    let counted = outcome::is_counted(first, outcome);
-    let due = set.stats & counted;
-    let links_used = list_link(due, links, progress.links_used, rdh.link_id);
-    let fee_ids_used = list_fee_id(due, fee_ids, progress.fee_ids_used, rdh.rdh0.fee_id.0);
-    count_trigger(due, triggers, rdh.rdh2.trigger_type);
-    stepped(
-        set,
-        progress,
-        outcome,
-        rdh,
-        start,
-        left,
-        links_used,
-        fee_ids_used,
-    )
 }
 
-// The reply for a header that has an outcome, with the used numbers of the lists after it.
-fn stepped(
-    set: Settings,
-    progress: Progress,
-    outcome: Outcome,
-    rdh: RdhCru,
-    start: usize,
-    left: usize,
-    links_used: usize,
-    fee_ids_used: usize,
-) -> Examination
-    requires { HeaderHere progress start left }
-    ensures { Stepped set progress outcome rdh start left links_used fee_ids_used result }
-{
-    let load = progress.load;
-    let position = progress.position;
-    let first = outcome::is_first(load);
-    let cut = outcome_payload::is_cut(set.skip_payload, outcome, rdh, left);
-    let payload = outcome_payload::part(
-        start + RDH_CRU_SIZE_BYTES,
-        outcome_payload::read_size(set.skip_payload, rdh, left),
-    );
-    let tally = outcome_counts::tallied(set, first, outcome, progress.counts, rdh);
-    let next_position = Position(position.0 + outcome_moves::position_moved(outcome, rdh));
-    Examination {
-        answer: outcome_effects::answer(
-            outcome,
-            rdh,
-            payload,
-            outcome_moves::start_of(load, position),
-            position,
-        ),
-        marks: Marks {
-            initial: outcome_effects::initial_collect_stats(set.stats, first, position, rdh),
-            seen_carry: tally.seen.carry,
-            filtered_carry: tally.filtered.carry,
-            payload_carry: tally.payload.carry,
-            payload_cut: cut,
-        },
-        progress: Progress {
-            place: BytePlace(
-                progress.place.0
-                    + outcome_moves::place_moved(set.skip_payload, outcome, rdh, left) as u64,
-            ),
-            position: next_position,
-            load: outcome_moves::load_after(outcome, load, position),
-            counts: Counts {
-                seen: tally.seen.value,
-                filtered: tally.filtered.value,
-                payload: tally.payload.value,
-            },
-            links_used,
+impl Header {
+    // Examines the header. What becomes of it is decided first, so that a want leaves no count and no place of the lists written.
+    fn step(&self, scan: &mut Scan, last: bool) -> Examination
+        requires { HeaderHere scan.old.progress self.now }
+        ensures examined { RepliesFor scan.old self.now last (examination_of result scan.new) }
+        ensures same { SameScan scan.old scan.new }
+    {
+        let set = scan.set;
+        let outcome = self.outcome(scan);
+        if !last & outcome_payload::is_cut(set.skip_payload, outcome, self.rdh, self.left) {
+            let size = WANTED_HEADER + self.rdh.payload_size() as u64;
+            return Examination::unmarked(Ok(Some(LoadCdp::Want(scan.progress.place, size))));
+        }
+        let first = outcome::is_first(scan.progress.load);
+        let counted = outcome::is_counted(first, outcome);
+        self.list(scan, set.stats & counted);
+        self.pass(scan, outcome)
+    }
+
+    // What becomes of the header.
+    #[tactic(auto, unfolding(scan_cdp::specs::Steps::outcome_in))]
+    fn outcome(&self, scan: &Scan) -> Outcome
+        ensures { result ≡ outcome_in scan.now.set scan.now.progress scan.now.fee_ids.now self.now.rdh }
+    {
+        let first = outcome::is_first(scan.progress.load);
+        outcome::outcome_of(scan.set, first, self.lacks_place(scan), self.rdh)
+    }
+
+    // Whether its FEE id is to be listed, is new, and has no place.
+    #[tactic(auto, unfolding(stats::specs::Lists::full))]
+    fn lacks_place(&self, scan: &Scan) -> bool
+        ensures { result ≡ (scan.now.set.stats && full (header_fee_id self.now.rdh) scan.now.progress.fee_ids_used scan.now.fee_ids.now) }
+    {
+        let fee_id = self.rdh.rdh0.fee_id.0;
+        scan.set.stats & stats::is_full(scan.fee_ids, scan.progress.fee_ids_used, fee_id)
+    }
+
+    // Lists the header's link and FEE id and counts its trigger word, if that is due.
+    fn list(&self, scan: &mut Scan, due: bool)
+        ensures { scan.new ≡ listed due self.now.rdh scan.old }
+    {
+        let links_used = scan.progress.links_used;
+        scan.progress.links_used = list_if_due(due, scan.links, links_used, self.rdh.link_id);
+        let fee_ids_used = scan.progress.fee_ids_used;
+        scan.progress.fee_ids_used = list_if_due(
+            due,
+            scan.fee_ids,
             fee_ids_used,
-        },
+            self.rdh.rdh0.fee_id.0,
+        );
+        count_trigger(due, scan.triggers, self.rdh.rdh2.trigger_type);
+    }
+
+    // The reply for the header, which has an outcome, with the scan moved on behind it.
+    fn pass(&self, scan: &mut Scan, outcome: Outcome) -> Examination
+        requires { HeaderHere scan.old.progress self.now }
+        ensures { Stepped scan.old outcome self.now result scan.new }
+    {
+        let set = scan.set;
+        let Progress {
+            place,
+            position,
+            load,
+            counts,
+            ..
+        } = scan.progress;
+        let first = outcome::is_first(load);
+        let payload = outcome_payload::part(
+            self.start + RDH_CRU_SIZE_BYTES,
+            outcome_payload::read_size(set.skip_payload, self.rdh, self.left),
+        );
+        let tally = outcome_counts::tallied(set, first, outcome, counts, self.rdh);
+        let moved = outcome_moves::place_moved(set.skip_payload, outcome, self.rdh, self.left);
+        scan.progress.place = BytePlace(place.0 + moved as u64);
+        scan.progress.position = Position(
+            position.0 + outcome_moves::position_moved(outcome, self.rdh),
+        );
+        scan.progress.load = outcome_moves::load_after(outcome, load, position);
+        scan.progress.counts = Counts {
+            seen: tally.seen.value,
+            filtered: tally.filtered.value,
+            payload: tally.payload.value,
+        };
+        let start = outcome_moves::start_of(load, position);
+        Examination {
+            answer: outcome_effects::answer(outcome, self.rdh, payload, start, position),
+            marks: Marks {
+                initial: outcome_effects::initial_collect_stats(
+                    set.stats, first, position, self.rdh,
+                ),
+                seen_carry: tally.seen.carry,
+                filtered_carry: tally.filtered.carry,
+                payload_carry: tally.payload.carry,
+                payload_cut: outcome_payload::is_cut(
+                    set.skip_payload,
+                    outcome,
+                    self.rdh,
+                    self.left,
+                ),
+            },
+        }
     }
 }
