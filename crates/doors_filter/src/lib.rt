@@ -2,15 +2,16 @@
 #![tactic(auto)]
 
 ghost use Rattle.std.specs.Prelude.{◌≡◌};
-ghost use Rattle.its_names.specs.StaveNames.{name_answer, named_fee};
+ghost use Rattle.its_names.specs.StaveNames.{named_fee};
 ghost use Rattle.doors_filter.specs.Replies.{plain_stave_set};
 
+use doors_header_structs::plain::NO_REFUSAL;
 use doors_scan_structs::PlainSettings;
-use doors_staves::{NO_REFUSAL, NOT_A_STAVE_NAME};
-use its_names::StaveFeeId;
+use doors_staves::NOT_A_STAVE_NAME;
+use its_names::NotAStaveName;
 
 #[repr(C)]
-#[derive(Clone, Copy)]
+#[derive(Clone, Copy, Debug, PartialEq, Eq)]
 pub struct PlainStaveSet {
     pub settings: PlainSettings,
     pub refusal: u32,
@@ -20,27 +21,16 @@ pub struct PlainStaveSet {
 pub fn kesarimbu_set_stave(settings: PlainSettings, name: &[u8]) -> PlainStaveSet
     ensures { result ≡ plain_stave_set (named_fee name.now) settings }
 {
-    plain_stave_set(its_names::layer_stave_string_to_feeid(name), settings)
-}
-
-fn plain_stave_set(named: StaveFeeId, settings: PlainSettings) -> PlainStaveSet
-    ensures { result ≡ plain_stave_set (name_answer named) settings }
-{
-    match named {
-        StaveFeeId::FeeId(fee_id) => PlainStaveSet {
+    match its_names::layer_stave_string_to_feeid(name) {
+        Ok(fee_id) => PlainStaveSet {
             settings: PlainSettings {
-                by_link: settings.by_link,
-                by_fee: settings.by_fee,
                 by_stave: true,
-                link: settings.link,
-                fee: settings.fee,
                 stave: fee_id,
-                skip_payload: settings.skip_payload,
-                stats: settings.stats,
+                ..settings
             },
             refusal: NO_REFUSAL,
         },
-        StaveFeeId::NotAStaveName => PlainStaveSet {
+        Err(NotAStaveName) => PlainStaveSet {
             settings,
             refusal: NOT_A_STAVE_NAME,
         },

@@ -6,14 +6,14 @@ ghost use Rattle.its.specs.FeeIds.{fee_id_of, same_stave};
 ghost use Rattle.its_names.specs.StaveNames.{name_answer, named_fee};
 ghost use Rattle.doors_staves.specs.Replies.{fee_parts, plain_named};
 
-use its_names::StaveFeeId;
+use doors_header_structs::plain::NO_REFUSAL;
+use its_names::NotAStaveName;
 
-pub const NO_REFUSAL: u32 = 0;
-
+// What C calls the refusal of a name.
 pub const NOT_A_STAVE_NAME: u32 = 8;
 
 #[repr(C)]
-#[derive(Clone, Copy)]
+#[derive(Clone, Copy, Debug, PartialEq, Eq)]
 pub struct PlainFeeParts {
     pub layer: u8,
     pub stave: u8,
@@ -21,7 +21,7 @@ pub struct PlainFeeParts {
 }
 
 #[repr(C)]
-#[derive(Clone, Copy)]
+#[derive(Clone, Copy, Debug, PartialEq, Eq)]
 pub struct PlainNamed {
     pub refusal: u32,
     pub fee_id: u16,
@@ -31,13 +31,10 @@ pub struct PlainNamed {
 pub fn kesarimbu_fee(fee_id: u16) -> PlainFeeParts
     ensures { result ≡ fee_parts fee_id }
 {
-    let layer = its::layer_from_feeid(fee_id);
-    let stave = its::stave_number_from_feeid(fee_id);
-    let uplink = its::uplink_from_feeid(fee_id);
     PlainFeeParts {
-        layer,
-        stave,
-        uplink,
+        layer: its::layer_from_feeid(fee_id),
+        stave: its::stave_number_from_feeid(fee_id),
+        uplink: its::uplink_from_feeid(fee_id),
     }
 }
 
@@ -59,20 +56,22 @@ pub fn kesarimbu_same_stave(fee_id: u16, other: u16) -> bool
 pub fn kesarimbu_name(name: &[u8]) -> PlainNamed
     ensures { result ≡ plain_named (named_fee name.now) }
 {
-    plain_named(its_names::layer_stave_string_to_feeid(name))
+    PlainNamed::from(its_names::layer_stave_string_to_feeid(name))
 }
 
-fn plain_named(named: StaveFeeId) -> PlainNamed
-    ensures { result ≡ plain_named (name_answer named) }
-{
-    match named {
-        StaveFeeId::FeeId(fee_id) => PlainNamed {
-            refusal: NO_REFUSAL,
-            fee_id,
-        },
-        StaveFeeId::NotAStaveName => PlainNamed {
-            refusal: NOT_A_STAVE_NAME,
-            fee_id: 0,
-        },
+impl From<Result<u16, NotAStaveName>> for PlainNamed {
+    fn from(named: Result<u16, NotAStaveName>) -> PlainNamed
+        ensures { result ≡ plain_named (name_answer named) }
+    {
+        match named {
+            Ok(fee_id) => PlainNamed {
+                refusal: NO_REFUSAL,
+                fee_id,
+            },
+            Err(NotAStaveName) => PlainNamed {
+                refusal: NOT_A_STAVE_NAME,
+                fee_id: 0,
+            },
+        }
     }
 }

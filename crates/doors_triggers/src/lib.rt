@@ -7,7 +7,7 @@ ghost use Rattle.trigger_texts.specs.Mismatches.{mismatch_text};
 ghost use Rattle.trigger_texts.specs.TriggerList.{list_text};
 ghost use Rattle.doors_header_structs.specs.Plain.{plain_written};
 
-use doors_header_structs::plain::{PlainText, plain_text};
+use doors_header_structs::plain::PlainText;
 use trigger_stats::COUNTERS;
 
 // Writes the list of the counts.
@@ -15,7 +15,7 @@ pub fn kesarimbu_trigger_list(triggers: &[u32; COUNTERS], out: &mut [u8]) -> Pla
     ensures answer { result ≡ plain_written (written (list_text triggers.now) out.old) }
     ensures left { out.new ≡ overwritten (list_text triggers.now) out.old }
 {
-    plain_text(trigger_list::display(*triggers, out))
+    PlainText::from(trigger_list::display(*triggers, out))
 }
 
 // Writes a line for each count that is not the expected one, in the order of the counts.
@@ -29,5 +29,5 @@ pub fn kesarimbu_trigger_compare(
     ensures left { out.new
         ≡ overwritten (mismatch_text triggers.now expected.now) out.old }
 {
-    plain_text(trigger_compare::validate_other(*triggers, *expected, out))
+    PlainText::from(trigger_compare::validate_other(*triggers, *expected, out))
 }
