@@ -1,5 +1,5 @@
 -- Laws of a single call: what holds it back, and what ends the chain.
-use Rattle.std.specs.Prelude.{ℕ, Bool, true, false, not, ◌||◌, ◌&&◌, ◌≡◌, refl, List, [], eqb, ltb, length, drop}
+use Rattle.std.specs.Prelude.{ℕ, Bool, true, false, not, ◌||◌, ◌&&◌, ◌≡◌, refl, List, [], eqb, ltb, length, drop, Err}
 use Rattle.std.proofs.lemmas.Bool.{false≢true}
 use Rattle.std.proofs.Common.{true≢false, ap}
 use Rattle.basis.specs.PickLaws.{by_test}
@@ -8,7 +8,6 @@ use Rattle.scan_cdp.specs.Answers.{Found, handed, load_answer, number_of, passed
 use Rattle.scan_cdp.specs.Loads.{is_passed}
 use Rattle.scan_cdp.specs.Steps.{Entry, ended, unchanged, unusable, entry_at}
 use Rattle.scan_cdp.specs.Windows.{outside, shown}
-use Rattle.scan_cdp.specs.declared.LoadCdp.TheVariants.{Refused}
 use Rattle.scan_cdp.specs.declared.Part.{Part}
 use Rattle.scan_cdp.specs.declared.Refusal.{Refusal}
 use Rattle.scan_cdp.specs.declared.Refusal.TheVariants.{End, FeeIdsFull, MemorySize, OffsetToNext, Unusable}
@@ -91,7 +90,7 @@ refused_ends (refuses number values) six known due refused = by_number (one_to_f
 
 -- Of the refusals only 6 can leave the chain open.
 pub ends_but_6 : (why : Refusal) (six : Bool)
-    → (not (eqb (number_of why) (number_of Unusable)) || six) ≡ ends_by (load_answer (Refused why)) six
+    → (not (eqb (number_of why) (number_of Unusable)) || six) ≡ ends_by (load_answer (Err why)) six
 ends_but_6 End six = refl
 ends_but_6 (OffsetToNext distance position) six = refl
 ends_but_6 MemorySize six = refl

@@ -1,12 +1,10 @@
 -- What the next entry tells, by its answer: of the header where a scan stands, of the packet, and of position and open load after it.
-use Rattle.std.specs.Prelude.{ℕ, ◌+◌, true, false, ◌≡◌, refl, List, length, drop}
+use Rattle.std.specs.Prelude.{ℕ, ◌+◌, true, false, ◌≡◌, refl, List, length, drop, Option, Some, None}
 use Rattle.basis.specs.Refusals.{Answer, gives, refuses}
 use Rattle.rdh.specs.declared.rdh_cru.RdhCru.{RdhCru}
 use Rattle.scan_cdp.specs.Answers.{Found, handed, passed, wants}
 use Rattle.scan_cdp.specs.Outcomes.{is_match, offset}
 use Rattle.scan_cdp.specs.Steps.{Entry, ended, entry_of, load_after, outcome_in, payload_of, position_after, progress_after}
-use Rattle.scan_cdp.specs.declared.OpenLoad.{OpenLoad}
-use Rattle.scan_cdp.specs.declared.OpenLoad.TheVariants as Load
 use Rattle.scan_cdp.specs.declared.Settings.{Settings}
 use Rattle.scan_laws.proofs.OutcomeLaws.{known_here}
 use Rattle.scan_laws.proofs.RowLaws.{answer_cases}
@@ -16,22 +14,23 @@ use Rattle.chain.specs.OwnPositions.{start_of_load, open_at, position_of}
 use Rattle.chain.specs.OwnPositionsClaims.{AtHeader}
 use Rattle.chain.specs.PacketLists.{Packet}
 use Rattle.chain.specs.Walk.{header_at}
+use Rattle.scan_cdp.specs.declared.Position.{Position}
 
 -- A header that is passed: the filter does not take it, the position moves by its offset, and its load stays open.
-pub record PassedBy (set : Settings) (k : Kept) (h : RdhCru) (position : ℕ) (load : OpenLoad) : Type 0 where
+pub record PassedBy (set : Settings) (k : Kept) (h : RdhCru) (position : ℕ) (load : Option Position) : Type 0 where
   pub other : is_match set h ≡ false
   pub moved : position ≡ (position_of k).0 + offset h
-  pub opened : load ≡ Load.From (start_of_load k)
+  pub opened : load ≡ Some (start_of_load k)
 
 -- A packet: it has that header, which the filter takes, and its two positions; and it closes the load.
-pub record HandedBy (set : Settings) (k : Kept) (h : RdhCru) (p : Packet) (load : OpenLoad) : Type 0 where
+pub record HandedBy (set : Settings) (k : Kept) (h : RdhCru) (p : Packet) (load : Option Position) : Type 0 where
   pub header : p.header ≡ h
   pub taken : is_match set h ≡ true
   pub at-header : AtHeader k p
-  pub closed : load ≡ Load.None
+  pub closed : load ≡ None
 
 -- By the answer, with the position and the open load after it. It is never a want; a refused one is not asked.
-abbrev pub Tells : Settings → Kept → RdhCru → (position : ℕ) → OpenLoad → Answer (Found (List ℕ)) → Type 0
+abbrev pub Tells : Settings → Kept → RdhCru → (position : ℕ) → Option Position → Answer (Found (List ℕ)) → Type 0
 Tells set k h position load (gives passed) = PassedBy set k h position load
 Tells set k h position load (gives (handed p)) = HandedBy set k h p load
 Tells set k h position load (gives (wants place size)) = ⊥

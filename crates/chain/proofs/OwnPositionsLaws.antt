@@ -1,5 +1,5 @@
 -- Proofs of the statements on positions: what the next entry tells of them, and what that gives along the walk.
-use Rattle.std.specs.Prelude.{ℕ, ◌+◌, ◌≤◌, true, ◌≡◌}
+use Rattle.std.specs.Prelude.{ℕ, ◌+◌, ◌≤◌, true, ◌≡◌, Option, Some, None}
 use Rattle.std.proofs.Math.Bool.{false}
 use Rattle.std.proofs.Common.{true≢false, sym, ◌∙◌, arith}
 use Rattle.std.proofs.lemmas.Bool.{false≢true}
@@ -15,8 +15,6 @@ use Rattle.scan_cdp.specs.Answers.{Found, handed, passed, wants}
 use Rattle.scan_cdp.specs.Loads.{is_passed}
 use Rattle.scan_cdp.specs.Outcomes.{header_fee_id, offset}
 use Rattle.scan_cdp.specs.Steps.{Entry, is_first, start_of}
-use Rattle.scan_cdp.specs.declared.OpenLoad.{OpenLoad}
-use Rattle.scan_cdp.specs.declared.OpenLoad.TheVariants as Load
 use Rattle.scan_cdp.specs.declared.Position.{Position}
 use Rattle.scan_cdp.specs.declared.Settings.{Settings}
 use Rattle.chain.specs.Calls.{replies, reply_answer, reply_to, to_come}
@@ -36,7 +34,7 @@ use Rattle.chain.proofs.WalkLaws.{each_met, entries_collected, walk_unfolds}
 
 -- ---- at its header
 
-packet_told : (set : Settings) (k : Kept) (h : RdhCru) (position : ℕ) (load : OpenLoad) (a : Answer (Found (List ℕ)))
+packet_told : (set : Settings) (k : Kept) (h : RdhCru) (position : ℕ) (load : Option Position) (a : Answer (Found (List ℕ)))
     → Tells set k h position load a → Each (AtHeader k) (packet_in a)
 packet_told set k h position load (gives passed) told = tt
 packet_told set k h position load (gives (handed p)) told = (told.at-header, tt)
@@ -80,7 +78,7 @@ module _ (recording : List ℕ) (set : Settings) (P : WholeLoad → Type 0) (Wel
     (here : (hs : List RdhCru) (k : Kept) (p : Packet) → Well hs k → AtHeader k p → P (record { passed = hs; packet = p }))
     (passes : (hs : List RdhCru) (k k' : Kept) (h : RdhCru) → Well hs k → PassedBy set k h (position_of k').0 (open_at k')
     → Well (passed_after hs h (gives passed)) k')
-    (closes : (hs : List RdhCru) (k' : Kept) (h : RdhCru) (p : Packet) → open_at k' ≡ Load.None → Well (passed_after hs h (gives (handed p))) k') where
+    (closes : (hs : List RdhCru) (k' : Kept) (h : RdhCru) (p : Packet) → open_at k' ≡ None → Well (passed_after hs h (gives (handed p))) k') where
   each_load : (start : Kept) (hs : List RdhCru) → Well hs start → Each P (whole_loads hs (walk recording set start))
   unfolding whole_loads
   each_load =
@@ -101,20 +99,20 @@ module _ (recording : List ℕ) (set : Settings) (P : WholeLoad → Type 0) (Wel
 
 -- ---- over a whole load
 
-is_none : (load : OpenLoad) → is_first load ≡ true → load ≡ Load.None
-is_none Load.None e = refl
-is_none (Load.From start) e = absurd (false≢true e)
+is_none : (load : Option Position) → is_first load ≡ true → load ≡ None
+is_none None e = refl
+is_none (Some start) e = absurd (false≢true e)
 
 as_numbers : {p q : Position} → p ≡ q → p.0 ≡ q.0
 as_numbers same = ap (λ (n : Position). n.0) same
 
 -- Where no load is open, the next header's load starts at the position.
-starts_here : (k : Kept) → open_at k ≡ Load.None → start_of_load k ≡ position_of k
-starts_here k none = ap (λ (load : OpenLoad). start_of load (position_of k)) none
+starts_here : (k : Kept) → open_at k ≡ None → start_of_load k ≡ position_of k
+starts_here k none = ap (λ (load : Option Position). start_of load (position_of k)) none
 
 -- A passed header leaves the start of its load.
 start_stays : (set : Settings) (k k' : Kept) (h : RdhCru) → PassedBy set k h (position_of k').0 (open_at k') → start_of_load k' ≡ start_of_load k
-start_stays set k k' h told = ap (λ (load : OpenLoad). start_of load (position_of k')) told.opened
+start_stays set k k' h told = ap (λ (load : Option Position). start_of load (position_of k')) told.opened
 
 offsets_more : (hs : List RdhCru) (h : RdhCru) → offsets (hs ++ (h ∷ [])) ≡ offsets hs + offset h
 unfolding offsets
@@ -125,7 +123,7 @@ offsets_more (x ∷ hs) h = omega (arith, offsets_more hs h)
 abbrev Summed : List RdhCru → Kept → Type 0
 Summed hs k = (position_of k).0 ≡ (start_of_load k).0 + offsets hs
 
-none_summed : (k : Kept) → open_at k ≡ Load.None → Summed [] k
+none_summed : (k : Kept) → open_at k ≡ None → Summed [] k
 unfolding offsets
 none_summed k none = omega (arith, as_numbers (starts_here k none))
 
@@ -246,7 +244,7 @@ each_packet P recording set start each =
 pub own_unfiltered : OwnUnfiltered
 own_unfiltered recording set start unfiltered none =
     each_packet (λ p. p.own ≡ p.position) recording set start
-    (each_load recording set (λ l. l.packet.own ≡ l.packet.position) (λ hs k. open_at k ≡ Load.None)
+    (each_load recording set (λ l. l.packet.own ≡ l.packet.position) (λ hs k. open_at k ≡ None)
     (λ hs k p closed at. at.own ∙ sym (starts_here k closed) ∙ sym at.position)
     (λ hs k k' h closed told. absurd (true≢false (sym (all-taken set.filter h.link_id (header_fee_id h) unfiltered) ∙ told.other)))
     (λ hs k' h p closed. closed)

@@ -1,6 +1,6 @@
 -- Proofs of the statements on packets: what a call is served hands out the packets of the entries that it takes, and each entry of the chain
 -- tells whether the header there matches.
-use Rattle.std.specs.Prelude.{ℕ, ◌≤◌, true, false, not, ◌&&◌, ◌≡◌, refl, List, [], ◌∷◌, length}
+use Rattle.std.specs.Prelude.{ℕ, ◌≤◌, true, false, not, ◌&&◌, ◌≡◌, refl, List, [], ◌∷◌, length, Option}
 use Rattle.std.proofs.Common.{true≢false, ap, sym, ◌∙◌, arith}
 use Rattle.std.proofs.lemmas.List.{map-append}
 use Rattle.std.proofs.lemmas.Bool.{not-true}
@@ -13,7 +13,6 @@ use Rattle.scan_cdp.specs.Loads.{is_passed, no_load_marks, together}
 use Rattle.scan_cdp.specs.Steps.{Entry, unchanged}
 use Rattle.scan_cdp.specs.Outcomes.{is_match}
 use Rattle.scan_cdp.specs.declared.LoadMarks.{LoadMarks}
-use Rattle.scan_cdp.specs.declared.OpenLoad.{OpenLoad}
 use Rattle.scan_cdp.specs.declared.Settings.{Settings}
 use Rattle.chain.specs.Calls.{Call, Hold, Served, Window, along, examination, examined_by, examines, free, held, held_back, kept_by, load_along, loaded_by, loads, replies, served_by, to_come}
 use Rattle.chain.proofs.CallsLaws.{held_cases}
@@ -28,6 +27,7 @@ use Rattle.chain.specs.PacketsClaims.{EachOnce, ExactlyMatching, MatchingInTurn,
 use Rattle.chain.proofs.TellingLaws.{Telling, all_told, told_once}
 use Rattle.chain.specs.Walk.{header_at}
 use Rattle.chain.proofs.WalkLaws.{entries_collected, same_collected}
+use Rattle.scan_cdp.specs.declared.Position.{Position}
 
 -- ---- each once
 
@@ -41,7 +41,7 @@ each_once recording set start calls windows = told_once _ telling_packets record
 -- ---- exactly the matching headers
 
 -- the header that an answer hands out is the one that is due
-header_told : (set : Settings) (k : Kept) (h : RdhCru) (position : ℕ) (load : OpenLoad) (a : Answer (Found (List ℕ)))
+header_told : (set : Settings) (k : Kept) (h : RdhCru) (position : ℕ) (load : Option Position) (a : Answer (Found (List ℕ)))
     → Tells set k h position load a → headers_of (packet_in a) ≡ pick (not (is_refused a) && is_match set h) (h ∷ []) []
 header_told set k h position load (gives passed) told = sym (off _ _ told.other)
 header_told set k h position load (gives (handed p)) told = ap (λ (x : RdhCru). x ∷ []) told.header ∙ sym (on _ _ told.taken)

@@ -1,5 +1,5 @@
 -- What a packet's own position is held against (S12): the headers that are passed before it, by the walk, and their offsets.
-use Rattle.std.specs.Prelude.{ℕ, ◌+◌, List, [], ◌∷◌, ◌++◌, map}
+use Rattle.std.specs.Prelude.{ℕ, ◌+◌, List, [], ◌∷◌, ◌++◌, map, Option}
 use Rattle.basis.specs.Pick.{pick}
 use Rattle.basis.specs.Refusals.{Answer}
 use Rattle.rdh.specs.declared.rdh_cru.RdhCru.{RdhCru}
@@ -7,7 +7,6 @@ use Rattle.scan_cdp.specs.Answers.{Found}
 use Rattle.scan_cdp.specs.Loads.{is_passed}
 use Rattle.scan_cdp.specs.Outcomes.{offset}
 use Rattle.scan_cdp.specs.Steps.{start_of}
-use Rattle.scan_cdp.specs.declared.OpenLoad.{OpenLoad}
 use Rattle.scan_cdp.specs.declared.Position.{Position}
 use Rattle.chain.specs.Chain.{Kept}
 use Rattle.chain.specs.PacketLists.{Packet, packet_in}
@@ -40,7 +39,7 @@ whole_loads hs (m ∷ ms) =
     ++ whole_loads (passed_after hs m.header m.entry.answer) ms
 
 -- Where a scan stands: the open load, the position, and the start of the load that the next header belongs to (S5, S7).
-abbrev pub open_at : Kept → OpenLoad
+abbrev pub open_at : Kept → Option Position
 open_at k = k.state.progress.load
 
 abbrev pub position_of : Kept → Position

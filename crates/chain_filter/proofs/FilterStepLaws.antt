@@ -1,6 +1,6 @@
 -- One step of a quick look without a filter, and with one, at the same byte place: by one split, what becomes of the header with both; and from
 -- it where the two are alike, and where they part. Which headers the filter takes does not matter.
-use Rattle.std.specs.Prelude.{ℕ, ◌+◌, ◌≤◌, Bool, ◌&&◌, ◌≡◌, ltb, length}
+use Rattle.std.specs.Prelude.{ℕ, ◌+◌, ◌≤◌, Bool, ◌&&◌, ◌≡◌, ltb, length, Option}
 use Rattle.std.proofs.Math.Bool.{true, false}
 use Rattle.std.proofs.Common.{true≢false, ap, sym, subst₂, ◌∙◌, arith}
 use Rattle.std.proofs.lemmas.Bool.{false≢true}
@@ -14,7 +14,6 @@ use Rattle.serde_rdh.specs.Layout.{decoded}
 use Rattle.scan_cdp.specs.Outcomes.{bad_memory_size, bad_offset, header_fee_id, filtered, is_match, header_memory_size, offset, outcome_of}
 use Rattle.scan_cdp.proofs.SkipDistanceLaws.{GoodOffset, good_offset}
 use Rattle.scan_cdp.specs.Steps.{Entry, cut, ended, entry_of, is_first, marks_of, outcome_in, payload_of, place_after, places_listed, progress_after, raised, start_of, step, tallied, triggers_after, unchanged, unusable, used_listed, with_load}
-use Rattle.scan_cdp.specs.declared.OpenLoad.{OpenLoad}
 use Rattle.scan_cdp.specs.declared.Outcome.{Outcome}
 use Rattle.scan_cdp.specs.declared.Outcome.TheVariants.{BadOffset, MemorySize, Passed, HandedOut}
 use Rattle.scan_cdp.specs.declared.Position.{Position}
@@ -30,7 +29,7 @@ use Rattle.chain_filter.specs.Scanned.{except_load, except_start, if_taken, no_f
 -- ---- what becomes of the header with both
 
 -- What is kept, with this load.
-abbrev pub opened : OpenLoad → Kept → Kept
+abbrev pub opened : Option Position → Kept → Kept
 opened load k = record { state = with_load load k.state; fee_ids = k.fee_ids }
 
 -- The outcome in a quick look, by whether the header is taken. There is no refusal 4, so that first and later headers are alike.
@@ -59,7 +58,7 @@ both_by_test P true x y x' y' holds fails = holds
 both_by_test P false x y x' y' holds fails = fails
 
 -- The two stand at one byte place, and keep the same but for the open load.
-module _ (filters : FilterOpt) (base : Kept) (load load' : OpenLoad) (rest : List ℕ) (end : ℕ) where
+module _ (filters : FilterOpt) (base : Kept) (load load' : Option Position) (rest : List ℕ) (end : ℕ) where
   abbrev s : State
   s = with_load load base.state
 
@@ -140,7 +139,7 @@ if_not-taken : (taken : RdhCru → Bool) (p : Packet) → taken p.header ≡ fal
 unfolding flat_map
 if_not-taken taken p is = ap (λ (b : Bool). map except_start (pick b (p ∷ []) [] ++ [])) (sym is)
 
-module _ (filters : FilterOpt) (base : Kept) (load load' : OpenLoad) (rest : List ℕ) (end : ℕ) where
+module _ (filters : FilterOpt) (base : Kept) (load load' : Option Position) (rest : List ℕ) (end : ℕ) where
   abbrev is_taken : RdhCru → Bool
   is_taken = is_match (quick filters)
 

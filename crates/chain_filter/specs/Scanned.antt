@@ -1,11 +1,9 @@
 -- What a scan of a recording comes to, its packets and its end, and what is left of that where a filter thins it out (C7).
-use Rattle.std.specs.Prelude.{ℕ, Bool, true, false}
+use Rattle.std.specs.Prelude.{ℕ, Bool, true, false, Some, None}
 use mathlib.Core.List.{List, [], ◌∷◌, ◌++◌, flat_map, map}
 use Rattle.basis.specs.Pick.{pick}
 use Rattle.basis.specs.Refusals.{Answer}
 use Rattle.filter.specs.declared.FilterOpt.{FilterOpt}
-use Rattle.filter.specs.declared.Option8.TheVariants as Option8
-use Rattle.filter.specs.declared.Option16.TheVariants as Option16
 use Rattle.rdh.specs.declared.rdh_cru.RdhCru.{RdhCru}
 use Rattle.scan_cdp.specs.Answers.{Found}
 use Rattle.scan_cdp.specs.Steps.{Entry, closed, new_state, unusable}
@@ -24,16 +22,16 @@ quick filters = record { filter = filters; skip_payload = true; stats = false }
 
 -- No filter, and each of the three kinds alone (S3).
 abbrev pub no_filter : FilterOpt
-no_filter = record { filter_link = Option8.None; filter_fee = Option16.None; filter_its_stave = Option16.None }
+no_filter = record { filter_link = None; filter_fee = None; filter_its_stave = None }
 
 abbrev pub filter_by_link : ℕ → FilterOpt
-filter_by_link link = record { filter_link = Option8.Some link; filter_fee = Option16.None; filter_its_stave = Option16.None }
+filter_by_link link = record { filter_link = Some link; filter_fee = None; filter_its_stave = None }
 
 abbrev pub filter_by_fee : ℕ → FilterOpt
-filter_by_fee fee = record { filter_link = Option8.None; filter_fee = Option16.Some fee; filter_its_stave = Option16.None }
+filter_by_fee fee = record { filter_link = None; filter_fee = Some fee; filter_its_stave = None }
 
 abbrev pub filter_by_stave : ℕ → FilterOpt
-filter_by_stave stave = record { filter_link = Option8.None; filter_fee = Option16.None; filter_its_stave = Option16.Some stave }
+filter_by_stave stave = record { filter_link = None; filter_fee = None; filter_its_stave = Some stave }
 
 -- What a reader starts with that has not begun, with this FEE list (W1).
 abbrev pub new_with : List ℕ → Kept

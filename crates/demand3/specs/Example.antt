@@ -1,7 +1,7 @@
 -- Examples, which no public contract cites. D3.1 on a small recording, computed: there are two packets of 64 bytes, and four calls on
 -- windows that meet the premises. The replies and the chain are written out, so that a reader sees that they agree. Then both ends of S10,
 -- the two positions of S12, and the trigger counts of G5.
-use Rattle.std.specs.Prelude.{ℕ, Bool, true, false, ◌≡◌, refl, ℤ, pos, drop, replicate, take}
+use Rattle.std.specs.Prelude.{ℕ, Bool, true, false, ◌≡◌, refl, ℤ, pos, drop, replicate, take, Some}
 use Rattle.std.proofs.lemmas.Bool.{false≢true}
 use mathlib.Core.List.{List, [], ◌∷◌, ◌++◌, flat_map, map}
 use Rattle.std.proofs.Common.{arith}
@@ -15,7 +15,6 @@ use Rattle.scan_cdp.specs.Loads.{loaded, loaded_from, together}
 use Rattle.scan_cdp.specs.Steps.{Entry, cut, ended, entry_of, initial_of, marks_of, new_state, payload_of, place_after, places_listed, progress_after, raised, step, tallied, triggers_after, outcome_in, unusable, used_listed, with_lent}
 use Rattle.scan_cdp.specs.Outcomes.{filtered, offset, skip_distance, outcome_of}
 use Rattle.scan_cdp.specs.Windows.{bytes_at, examined, outside, part_at}
-use Rattle.scan_cdp.specs.declared.OpenLoad.TheVariants as Load
 use Rattle.scan_cdp.specs.declared.Settings.{Settings}
 use Rattle.stats.specs.Counts.{added}
 use Rattle.stats.specs.Lists.{full, member, places_after, twice, used_after}
@@ -151,7 +150,7 @@ opened =
         progress = record {
           place = record { 0 = 0 };
           position = record { 0 = 0 };
-          load = Load.From (record { 0 = 1000 });
+          load = Some (record { 0 = 1000 });
           counts = new_state.progress.counts;
           links_used = 0;
           fee_ids_used = 0;

@@ -1,9 +1,7 @@
 -- The starred cases (E1 to E7) as one list of inputs and expected replies (D3.8).
-use Rattle.std.specs.Prelude.{ℕ, Bool, true, false, List, [], ◌∷◌, ◌++◌, pos, negsuc, replicate}
+use Rattle.std.specs.Prelude.{ℕ, Bool, true, false, List, [], ◌∷◌, ◌++◌, pos, negsuc, replicate, None}
 use Rattle.basis.specs.Bytes.{bytes_of}
 use Rattle.basis.specs.Refusals.{Answer, gives, refuses}
-use Rattle.filter.specs.declared.Option8.TheVariants as Option8
-use Rattle.filter.specs.declared.Option16.TheVariants as Option16
 use Rattle.serde_rdh.specs.Layout.{decoded}
 use Rattle.scan_cdp.specs.Answers.{Found, handed}
 use Rattle.scan_cdp.specs.declared.Settings.{Settings}
@@ -22,7 +20,7 @@ sample fee_id offset bc trigger =
 abbrev pub plain : Settings
 plain =
     record {
-      filter = record { filter_link = Option8.None; filter_fee = Option16.None; filter_its_stave = Option16.None };
+      filter = record { filter_link = None; filter_fee = None; filter_its_stave = None };
       skip_payload = false;
       stats = true;
     }
