@@ -27,24 +27,26 @@ pub struct Columns {
     pub detector_field: u64,
 }
 
-pub fn columns_of(h: RdhCru) -> Columns
-    ensures { result ≡ columns_of h }
-{
-    Columns {
-        header_id: h.rdh0.header_id as u64,
-        header_size: h.rdh0.header_size as u64,
-        fee_id: h.rdh0.fee_id.0 as u64,
-        system_id: h.rdh0.system_id as u64,
-        offset_new_packet: h.offset_new_packet as u64,
-        link_id: h.link_id as u64,
-        packet_counter: h.packet_counter as u64,
-        bc: h.rdh1.bc() as u64,
-        orbit: h.rdh1.orbit as u64,
-        data_format: h.data_format() as u64,
-        trigger_type: h.rdh2.trigger_type as u64,
-        pages_counter: h.rdh2.pages_counter as u64,
-        stop_bit: h.rdh2.stop_bit as u64,
-        detector_field: h.rdh3.detector_field as u64,
+impl From<RdhCru> for Columns {
+    fn from(h: RdhCru) -> Columns
+        ensures { result ≡ columns_of h }
+    {
+        Columns {
+            header_id: h.rdh0.header_id as u64,
+            header_size: h.rdh0.header_size as u64,
+            fee_id: h.rdh0.fee_id.0 as u64,
+            system_id: h.rdh0.system_id as u64,
+            offset_new_packet: h.offset_new_packet as u64,
+            link_id: h.link_id as u64,
+            packet_counter: h.packet_counter as u64,
+            bc: h.rdh1.bc() as u64,
+            orbit: h.rdh1.orbit as u64,
+            data_format: h.data_format() as u64,
+            trigger_type: h.rdh2.trigger_type as u64,
+            pages_counter: h.rdh2.pages_counter as u64,
+            stop_bit: h.rdh2.stop_bit as u64,
+            detector_field: h.rdh3.detector_field as u64,
+        }
     }
 }
 

@@ -3,41 +3,40 @@
 
 ghost use Rattle.rdh_row.specs.Row.{row_text};
 ghost use Rattle.std.specs.Prelude.{◌≡◌};
-ghost use Rattle.text.specs.Written.{Needed, Writes};
+ghost use Rattle.text.specs.Written.{Writes};
 ghost use Rattle.text_writer.specs.Writer.{extended};
 
 use rdh::rdh_cru::RdhCru;
-use rdh_columns::{columns_of, put_columns};
-use text::Written;
-use text_writer::TextWriter;
+use rdh_columns::{Columns, put_columns};
+use text::TooShort;
+use text_writer::{Text, TextWriter, write_text};
 
 // The length of the longest row: a buffer of this length is never too short.
 const LONGEST_ROW: usize = 114;
 
-// Writes the row of `h` at the start of `out`.
-pub fn row(h: RdhCru, out: &mut [u8]) -> Written
-    ensures { Writes (row_text h) out.old result out.new }
-{
-    let need = needed(h, out.len());
-    if out.len() < need {
-        return Written::TooShort(need);
-    }
-    let mut w = TextWriter::new(out, 0);
-    put_row(&mut w, h);
-    Written::Text(w.count)
+// The row of a header.
+#[derive(Clone, Copy)]
+struct RdhRow {
+    header: RdhCru,
 }
 
-// The length that the row needs, or 0 where any row fits the room.
-fn needed(h: RdhCru, room: usize) -> usize
-    ensures { Needed (row_text h) room result }
-{
-    if LONGEST_ROW <= room {
-        return 0;
+impl Text for RdhRow {
+    ghost text = { λ row. row_text row.header };
+
+    fn longest(self) -> usize {
+        LONGEST_ROW
     }
-    let mut none = [0u8; 0];
-    let mut w = TextWriter::new(&mut none, 0);
-    put_row(&mut w, h);
-    w.count
+
+    fn put(self, w: &mut TextWriter) {
+        put_row(w, self.header);
+    }
+}
+
+// Writes the row of `h` at the start of `out`.
+pub fn row(h: RdhCru, out: &mut [u8]) -> Result<usize, TooShort>
+    ensures { Writes (row_text h) out.old result out.new }
+{
+    write_text(RdhRow { header: h }, out)
 }
 
 // Writes the row of `h`, for whoever writes more in front of it or behind it.
@@ -45,5 +44,5 @@ fn needed(h: RdhCru, room: usize) -> usize
 pub fn put_row(w: &mut TextWriter, h: RdhCru)
     ensures { w.new ≡ extended w.old (row_text h) }
 {
-    put_columns(w, columns_of(h));
+    put_columns(w, Columns::from(h));
 }

@@ -1,5 +1,5 @@
 -- Each call extends the writer that the call before left, so the columns stand in a row.
-use Rattle.std.proofs.Common.{rules, ℕ, ◌<◌, ◌^◌, length}
+use Rattle.std.proofs.Common.{rules, ◌<◌, ◌^◌, length}
 use Rattle.rdh_columns.specs.Columns.{columns_text}
 use Rattle.text_writer.proofs.WriterLaws.{extended_then}
 use Rattle.rdh_columns.proofs.put_columns.Goals as goal

@@ -1,6 +1,6 @@
 -- Each value is that of the header.
 use Rattle.rdh_columns.specs.Columns.{columns_of}
-use Rattle.rdh_columns.proofs.columns_of.Goals as goal
+use Rattle.rdh_columns.proofs.ColumnsFromRdhCru.from.Goals as goal
 
 pub returns : goal.returns
 unfolding columns_of
