@@ -1,6 +1,6 @@
 -- Laws of what a buffer holds: when bytes move to its front, and when it is read on.
 use Rattle.std.specs.Prelude.{ℕ, ◌+◌, ◌-◌, ◌≤◌, ◌<◌, ◌≡◌, refl, List, Bool, true, false, length, take, drop, Result, Ok, Err}
-use Rattle.std.proofs.Common.{ap, sym, subst, ◌∙◌, length-drop, take-take}
+use Rattle.std.proofs.Common.{ap, sym, ◌∙◌, length-drop, take-take}
 use native.Mathlib.Omega.{arith}
 use Rattle.std.proofs.Math.Seq.{paste}
 use Rattle.std.proofs.lemmas.List.Edits.{length-paste}
@@ -97,8 +97,3 @@ pub all_read : {E : Type 0} {h : Held} {m : List ℕ} {place : ℕ} {g : Held} {
     → (r : Result Held E) → ReadsOn g l g.first.0 size k r → ReadsOn h m place size k r
 all_read up_to size k (Err e) behind = failed_behind up_to behind
 all_read up_to size k (Ok e) behind = read_on up_to behind
-
--- what is held then stands in the buffer
-pub shown_within : {E : Type 0} (h : Held) (m : List ℕ) (place size : ℕ) (l : List ℕ) {r : Result Held E} {g : Held} → r ≡ Ok g → ReadsOn h m place size l r
-    → g.length ≤ length l
-shown_within {E} h m place size l is reads = (subst (λ (s : Result Held E). ReadsOn h m place size l s) is reads).kept.within

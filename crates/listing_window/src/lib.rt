@@ -2,10 +2,10 @@
 // or a pipe, and a read may give any number of bytes.
 #![tactic(auto)]
 
-ghost use Rattle.std.specs.Prelude.{◌≡◌, ◌-◌, ◌≤◌, ◌<◌, min, length};
+ghost use Rattle.std.specs.Prelude.{◌≡◌, ◌-◌, ◌≤◌, ◌<◌, min, length, take};
 ghost use Rattle.listing_window.specs.Held.{ReadsOn, Shows, held_from, nothing, nothing_from, slid};
 
-use scan_cdp::{BytePlace, LIMIT};
+use scan_cdp::{BytePlace, LIMIT, Window};
 use std::io;
 use std::io::{ErrorKind, Read, Seek, SeekFrom};
 
@@ -15,6 +15,22 @@ pub struct Held {
     pub first: BytePlace,
     pub length: usize,
     pub last: bool,
+}
+
+impl Held {
+    // The window that a scan is lent: what the buffer holds.
+    pub fn window<'a>(self, buffer: &'a [u8]) -> Window<'a>
+        requires { self.length ≤ length buffer.now }
+        ensures bytes { result.bytes.now ≡ take self.length buffer.now }
+        ensures first { result.first ≡ self.first }
+        ensures last { result.last ≡ self.last }
+    {
+        Window {
+            bytes: &buffer[..self.length],
+            first: self.first,
+            last: self.last,
+        }
+    }
 }
 
 // Nothing was read yet.
