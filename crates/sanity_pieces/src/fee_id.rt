@@ -1,43 +1,51 @@
 // The FEE id: reserved bits, stave and layer.
+ghost use Rattle.std.specs.Prelude.{◌≡◌};
+ghost use Rattle.text_writer.specs.Writer.{extended};
 ghost use Rattle.sanity.specs.Tests.{fee_id_test, fee_id_tests, piece_of, pieces};
-ghost use Rattle.text.specs.Put.{Put};
 
-use crate::{put_decimal, put_hex};
+use crate::{Form, put_number};
 use rdh::rdh0::FeeId;
 use sanity::fee_id::{layer_fails, reserved_bits, reserved_bits_fail, stave_number_fails};
 use sanity_words::fee_id::fails;
+use text_writer::TextWriter;
 
 // The pieces of the FEE id's own tests, between brackets.
-pub fn put(out: &mut [u8], at: usize, fee_id: FeeId) -> usize
-    ensures { Put out.old at (piece_of (fee_id_test fee_id.0)) out.new result }
+pub fn put(w: &mut TextWriter, fee_id: FeeId)
+    ensures { w.new ≡ extended w.old (piece_of (fee_id_test fee_id.0)) }
 {
     if !fails(fee_id) {
-        return at;
+        return w.write_bytes(b"");
     }
-    let at = text::put_bytes(out, at, b"FEE ID = [");
-    let at = put_pieces(out, at, fee_id);
-    text::put_bytes(out, at, b"] ")
+    w.write_bytes(b"FEE ID = [");
+    put_pieces(w, fee_id);
+    w.write_bytes(b"] ");
 }
 
-fn put_pieces(out: &mut [u8], at: usize, fee_id: FeeId) -> usize
-    ensures { Put out.old at (pieces (fee_id_tests fee_id.0)) out.new result }
+fn put_pieces(w: &mut TextWriter, fee_id: FeeId)
+    ensures { w.new ≡ extended w.old (pieces (fee_id_tests fee_id.0)) }
 {
     let reserved_bits = reserved_bits(fee_id);
     let stave_number = fee_id.stave();
     let layer = fee_id.layer();
-    let at = put_hex(
-        out,
-        at,
+    put_number(
+        w,
         reserved_bits_fail(reserved_bits),
         b"reserved bits = ",
+        Form::Hex,
         reserved_bits as u64,
     );
-    let at = put_decimal(
-        out,
-        at,
+    put_number(
+        w,
         stave_number_fails(stave_number),
         b"stave number = ",
+        Form::Decimal,
         stave_number as u64,
     );
-    put_decimal(out, at, layer_fails(layer), b"layer = ", layer as u64)
+    put_number(
+        w,
+        layer_fails(layer),
+        b"layer = ",
+        Form::Decimal,
+        layer as u64,
+    );
 }

@@ -1,60 +1,67 @@
-// The pieces of text that name single failures, in the Rust's words: nothing where the test passed.
+// The pieces of text that name single failures, in the Rust's words: the empty text where the test passed.
 #![tactic(auto)]
 
-ghost use Rattle.std.specs.Prelude.{[], ◌++◌};
+ghost use Rattle.std.specs.Prelude.{◌≡◌, [], ◌++◌};
 ghost use Rattle.basis.specs.Pick.{pick};
 ghost use Rattle.text.specs.Ascii.{ascii};
-ghost use Rattle.text_numbers.specs.Numerals.{decimal, hex};
-ghost use Rattle.text.specs.Put.{Put};
+ghost use Rattle.text_writer.specs.Writer.{extended};
 ghost use Rattle.sanity.specs.Tests.{header_id_test, piece_of, reserved0_test};
+ghost use Rattle.sanity_pieces.specs.Forms.{formed};
 
 use sanity::rdh0::header_id_fails;
 use sanity::{Criteria, reserved0_fails};
+use text_writer::TextWriter;
 
 pub mod fee_id;
 
-// A label, a number in hexadecimal and a blank.
-pub fn put_hex(out: &mut [u8], at: usize, fails: bool, label: &[u8], n: u64) -> usize
-    ensures { Put out.old at (pick fails (label.now ++ hex n ++ ascii " ") []) out.new result }
-{
-    if !fails {
-        return at;
-    }
-    let at = text::put_bytes(out, at, label);
-    let at = text_numbers::put_hex(out, at, n);
-    text::put_byte(out, at, b' ')
+// How a piece writes its number.
+#[derive(Clone, Copy, Debug, PartialEq, Eq)]
+pub enum Form {
+    Decimal,
+    Hex,
 }
 
-// A label, a number in decimal and a blank.
-pub(crate) fn put_decimal(out: &mut [u8], at: usize, fails: bool, label: &[u8], n: u64) -> usize
-    ensures { Put out.old at (pick fails (label.now ++ decimal n ++ ascii " ") []) out.new result }
+impl Form {
+    fn put(self, w: &mut TextWriter, n: u64)
+        ensures { w.new ≡ extended w.old (formed self n) }
+    {
+        match self {
+            Form::Decimal => w.write_decimal(n),
+            Form::Hex => w.write_hex(n),
+        }
+    }
+}
+
+// A label, a number and a blank.
+pub fn put_number(w: &mut TextWriter, fails: bool, label: &[u8], form: Form, n: u64)
+    ensures { w.new ≡ extended w.old (pick fails (label.now ++ formed form n ++ ascii " ") []) }
 {
     if !fails {
-        return at;
+        return w.write_bytes(b"");
     }
-    let at = text::put_bytes(out, at, label);
-    let at = text_numbers::put_decimal(out, at, n);
-    text::put_byte(out, at, b' ')
+    w.write_bytes(label);
+    form.put(w, n);
+    w.write_byte(b' ');
 }
 
 // The header ID. No blank stands behind this piece, as in the Rust.
-pub fn put_header_id(out: &mut [u8], at: usize, criteria: Criteria, header_id: u8) -> usize
-    ensures { Put out.old at (piece_of (header_id_test criteria header_id)) out.new result }
+pub fn put_header_id(w: &mut TextWriter, criteria: Criteria, header_id: u8)
+    ensures { w.new ≡ extended w.old (piece_of (header_id_test criteria header_id)) }
 {
     if !header_id_fails(criteria, header_id) {
-        return at;
+        return w.write_bytes(b"");
     }
-    let at = text::put_bytes(out, at, b"Header ID = ");
-    let at = text_numbers::put_decimal(out, at, header_id as u64);
-    let at = text::put_bytes(out, at, b" (expected ");
-    let at = text_numbers::put_decimal(out, at, criteria.header_id as u64);
-    text::put_bytes(out, at, b")")
+    w.write_bytes(b"Header ID = ");
+    w.write_decimal(header_id as u64);
+    w.write_bytes(b" (expected ");
+    w.write_decimal(criteria.header_id as u64);
+    w.write_bytes(b")");
 }
 
 // The reserved part of any of the words.
-pub fn put_reserved0(out: &mut [u8], at: usize, reserved0: u32) -> usize
-    ensures { Put out.old at (piece_of (reserved0_test reserved0)) out.new result }
+pub fn put_reserved0(w: &mut TextWriter, reserved0: u32)
+    ensures { w.new ≡ extended w.old (piece_of (reserved0_test reserved0)) }
 {
     let fails = reserved0_fails(reserved0);
-    put_hex(out, at, fails, b"reserved0 = ", reserved0 as u64)
+    put_number(w, fails, b"reserved0 = ", Form::Hex, reserved0 as u64);
 }

@@ -2,11 +2,13 @@
 // for each.
 #![tactic(auto)]
 
+ghost use Rattle.std.specs.Prelude.{◌≡◌};
+ghost use Rattle.text_writer.specs.Writer.{extended};
 ghost use Rattle.sanity.specs.Tests.{failure_text};
-ghost use Rattle.text.specs.Put.{Put};
 
 use rdh::rdh_cru::RdhCru;
 use sanity::Criteria;
+use text_writer::TextWriter;
 
 mod cru;
 pub mod rdh0;
@@ -15,13 +17,13 @@ mod rdh2;
 mod rdh3;
 
 // The text of a header that is not sound.
-pub fn put_text(out: &mut [u8], at: usize, criteria: Criteria, rdh: RdhCru) -> usize
-    ensures { Put out.old at (failure_text criteria rdh) out.new result }
+pub fn put_text(w: &mut TextWriter, criteria: Criteria, rdh: RdhCru)
+    ensures { w.new ≡ extended w.old (failure_text criteria rdh) }
 {
-    let at = text::put_bytes(out, at, b"[E10] RDH sanity check failed: ");
-    let at = rdh0::put(out, at, criteria, rdh.rdh0);
-    let at = rdh1::put(out, at, rdh.rdh1);
-    let at = rdh2::put(out, at, rdh.rdh2);
-    let at = rdh3::put(out, at, rdh.rdh3);
-    cru::put(out, at, rdh)
+    w.write_bytes(b"[E10] RDH sanity check failed: ");
+    rdh0::put(w, criteria, rdh.rdh0);
+    rdh1::put(w, rdh.rdh1);
+    rdh2::put(w, rdh.rdh2);
+    rdh3::put(w, rdh.rdh3);
+    cru::put(w, rdh);
 }

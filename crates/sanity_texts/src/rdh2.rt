@@ -1,28 +1,30 @@
 // RDH2: reserved bits, stop bit and trigger type.
+ghost use Rattle.std.specs.Prelude.{◌≡◌};
+ghost use Rattle.text_writer.specs.Writer.{extended};
 ghost use Rattle.sanity.specs.Tests.{rdh2_tests, section};
-ghost use Rattle.text.specs.Put.{Put};
 
 use rdh::rdh2::Rdh2;
 use sanity::rdh2::{stop_bit_fails, trigger_type_fails};
-use sanity_pieces::{put_hex, put_reserved0};
+use sanity_pieces::{Form, put_number, put_reserved0};
 use sanity_words::rdh2::fails;
+use text_writer::TextWriter;
 
-pub(crate) fn put(out: &mut [u8], at: usize, rdh2: Rdh2) -> usize
-    ensures { Put out.old at (section "RDH2: " (rdh2_tests rdh2)) out.new result }
+pub(crate) fn put(w: &mut TextWriter, rdh2: Rdh2)
+    ensures { w.new ≡ extended w.old (section "RDH2: " (rdh2_tests rdh2)) }
 {
     if !fails(rdh2) {
-        return at;
+        return w.write_bytes(b"");
     }
     let stop_bit = stop_bit_fails(rdh2.stop_bit);
     let trigger_type = trigger_type_fails(rdh2.trigger_type);
-    let at = text::put_bytes(out, at, b"RDH2: ");
-    let at = put_reserved0(out, at, rdh2.reserved0 as u32);
-    let at = put_hex(out, at, stop_bit, b"stop bit = ", rdh2.stop_bit as u64);
-    put_hex(
-        out,
-        at,
+    w.write_bytes(b"RDH2: ");
+    put_reserved0(w, rdh2.reserved0 as u32);
+    put_number(w, stop_bit, b"stop bit = ", Form::Hex, rdh2.stop_bit as u64);
+    put_number(
+        w,
         trigger_type,
         b"Spare bits set in trigger_type = ",
+        Form::Hex,
         rdh2.trigger_type as u64,
-    )
+    );
 }

@@ -1,54 +1,81 @@
--- Laws of a check by its verdict and text: something sound; a text that fits the buffer, and one that does not.
-use Rattle.std.specs.Prelude.{ℕ, ◌≤◌, ◌<◌, Bool, true, false, ◌≡◌, pos}
-use Rattle.std.proofs.Math.Path.{ap, sym}
-use Rattle.std.proofs.Common.{◌∙◌, le-leb}
-use mathlib.Core.List.{List, [], ◌∷◌}
-use native.Mathlib.Omega.{arith}
-use Rattle.std.proofs.lemmas.Bool.{lt-leb}
-use Rattle.std.proofs.Math.ListN.{length}
+-- Laws of a check by its verdict and text: something sound; a text that was written, and one that is too long for the buffer.
+use Rattle.std.specs.Prelude.{ℕ, Bool, true, false, ◌≡◌, refl, List, [], leb, ℤ, length, Ok, Err}
+use Rattle.std.proofs.Common.{ap, sym, subst, ◌∙◌, arith, le-leb}
+use Rattle.basis.specs.Pick.{pick}
 use Rattle.basis.specs.PickLaws.{on, off}
 use Rattle.basis.specs.Refusals.{gives, refuses}
-use Rattle.text.specs.Put.{Put}
-use Rattle.text.specs.Written.{overwritten}
-use Rattle.text.specs.WrittenLaws.{fitting}
-use Rattle.validators.specs.Verdict.{Judges, judged_in}
-use Rattle.validators.specs.declared.Verdict.TheVariants.{Sound, NotSound, TooShort}
+use Rattle.sanity.specs.declared.Criteria.{Criteria}
+use Rattle.text.specs.declared.TooShort.{TooShort}
+use Rattle.text.specs.Written.{Writes, overwritten, written}
+use Rattle.validators.specs.declared.RdhCruSanityValidator.{RdhCruSanityValidator}
+use Rattle.validators.specs.declared.Verdict.TheVariants.{Sound, NotSound}
+use Rattle.validators.specs.Verdict.{ChecksBy, Judges, held_to, holding, settled_id}
 
--- a text that fits gives the verdict
-judged_fitting : (text l : List ℕ) {is_sound b : Bool} {n : ℕ} → is_sound ≡ b → n ≡ length text → length text ≤ length l
-    → judged_in is_sound text (length l) ≡ gives (record { is_sound = b; text_length = n })
-judged_fitting text l e is fits = on _ _ (le-leb _ _ fits) ∙ (λ i. gives (record { is_sound = e i; text_length = sym is i }))
+-- what a writing answers says whether the text fits
+fits : (b : Bool) {n k : ℕ} (values : List ℤ) → gives n ≡ pick b (gives k) (refuses 7 values) → (b ≡ true) × (n ≡ k)
+fits true values e = (refl, cc)
+fits false values e = cc
+
+too_long : (b : Bool) {values others : List ℤ} (k : ℕ) → refuses 7 values ≡ pick b (gives k) (refuses 7 others)
+    → (b ≡ false) × (values ≡ others)
+too_long true k e = cc
+too_long false k e = (refl, cc)
 
 module _ {A : Type 0} {is_sound : Bool} {text l : List ℕ} {settled unsettled : A} where
-  -- then the ID is settled, too, and the text stands at the buffer's start
-  pub judges_sound : {kept : A} → is_sound ≡ true → text ≡ [] → kept ≡ settled → Judges A is_sound text settled unsettled l Sound kept l
+  -- what is sound settles, too, and its text stands at the buffer's start
+  pub judges_sound : {kept : A} → is_sound ≡ true → text ≡ [] → kept ≡ settled → Judges A is_sound text settled unsettled l (Ok Sound) kept l
   unfolding overwritten
   judges_sound e none settles =
-      let fits : length text ≤ length l = omega (arith, ap length none) in
+      let empty : ◌≡◌ {A = ℕ} 0 (length text) = sym (ap length none) in
+      let room : leb (length text) (length l) ≡ true = le-leb _ _ (omega (arith, empty)) in
       record {
-        verdict = sym (judged_fitting text l e (sym (ap length none)) fits);
-        validator = settles ∙ sym (on _ _ (le-leb _ _ fits));
+        verdict = (λ i. gives (record { is_sound = sym e i; text_length = empty i })) ∙ sym (on _ _ room);
+        validator = settles ∙ sym (on _ _ room);
         leaves = sym (ap (λ (t : List ℕ). overwritten t l) none ∙ on _ _ (le-leb 0 (length l) (omega arith)));
       }
 
-  pub judges_unsound : {kept : A} {m : List ℕ} {n : ℕ} → is_sound ≡ false → length text ≤ length l → Put l 0 text m n → kept ≡ settled
-      → Judges A is_sound text settled unsettled l (NotSound n) kept m
-  judges_unsound {n = n} e fits p settles =
-      let is : n ≡ length text = omega (arith, p.next, p.room) in
+  pub judges_unsound : {kept : A} {m : List ℕ} {n : ℕ} → is_sound ≡ false → Writes text l (Ok n) m → kept ≡ settled
+      → Judges A is_sound text settled unsettled l (Ok (NotSound n)) kept m
+  unfolding written
+  judges_unsound e w settles =
+      let f = fits (leb (length text) (length l)) _ w.reply in
       record {
-        verdict = sym (judged_fitting text l e is fits);
-        validator = settles ∙ sym (on _ _ (le-leb _ _ fits));
-        leaves = (fitting fits p).leaves;
+        verdict = (λ i. gives (record { is_sound = sym e i; text_length = f.1 i })) ∙ sym (on _ _ f.0);
+        validator = settles ∙ sym (on _ _ f.0);
+        leaves = w.leaves;
       }
 
-  -- a text that does not fit: refusal 7 with its length, nothing settled and nothing written
-  pub judges_too_short : {need : ℕ} → need ≡ length text → length l < need
-      → Judges A is_sound text settled unsettled l (TooShort need) unsettled l
-  unfolding overwritten
-  judges_too_short is short =
-      let longer : length l < length text = omega arith in
+  -- a text that does not fit: refusal 7 with its length, and nothing settled
+  pub judges_too_short : {m : List ℕ} {e : TooShort} → Writes text l (Err e) m
+      → Judges A is_sound text settled unsettled l (Err e) unsettled m
+  unfolding written
+  judges_too_short w =
+      let f = too_long (leb (length text) (length l)) _ w.reply in
       record {
-        verdict = ap (λ (n : ℕ). refuses 7 (pos n ∷ [])) is ∙ sym (off _ _ (lt-leb _ _ longer));
-        validator = sym (off _ _ (lt-leb _ _ longer));
-        leaves = sym (off _ _ (lt-leb _ _ longer));
+        verdict = ap (λ (values : List ℤ). refuses 7 values) f.1 ∙ sym (off _ _ f.0);
+        validator = sym (off _ _ f.0);
+        leaves = w.leaves;
       }
+
+-- The three cases of what a check answers and leaves, by what the code finds out: the criteria, and whether any test fails.
+module _ (v : RdhCruSanityValidator) (id : ℕ) (is_sound : Criteria → Bool) (failures : Criteria → List ℕ) {criteria : Criteria}
+    (own : criteria ≡ held_to v id) {b : Bool} (is : b ≡ is_sound criteria) where
+  judged : {s : Bool} → b ≡ s → is_sound (held_to v id) ≡ s
+  judged e = sym (ap is_sound own) ∙ sym is ∙ e
+
+  text_is : b ≡ false → failures criteria ≡ pick (is_sound (held_to v id)) [] (failures (held_to v id))
+  text_is e = ap failures own ∙ sym (off _ _ (judged e))
+
+  pub by_sound : {w : RdhCruSanityValidator} {l : List ℕ} → b ≡ true → w ≡ holding v (settled_id v.header_id id)
+      → ChecksBy v id is_sound failures l (record { verdict = Ok Sound; validator = w }) l
+  by_sound e settles = judges_sound (judged e) (on _ _ (judged e)) settles
+
+  pub by_unsound : {w : RdhCruSanityValidator} {l m : List ℕ} {n : ℕ} → b ≡ false → Writes (failures criteria) l (Ok n) m
+      → w ≡ holding v (settled_id v.header_id id)
+      → ChecksBy v id is_sound failures l (record { verdict = Ok (NotSound n); validator = w }) m
+  by_unsound {l = l} {m = m} {n = n} e p settles =
+      judges_unsound (judged e) (subst (λ (t : List ℕ). Writes t l (Ok n) m) (text_is e) p) settles
+
+  pub by_too_short : {l m : List ℕ} {e : TooShort} → b ≡ false → Writes (failures criteria) l (Err e) m
+      → ChecksBy v id is_sound failures l (record { verdict = Err e; validator = v }) m
+  by_too_short {l} {m} {e} unsound p = judges_too_short (subst (λ (t : List ℕ). Writes t l (Err e) m) (text_is unsound) p)

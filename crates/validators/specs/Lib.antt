@@ -1,3 +1,4 @@
+pub mod Lent
 pub mod Verdict
 pub mod Verdicts
 pub mod VerdictsClaims

@@ -1,15 +1,16 @@
 -- A validator, and what a check on it answers and leaves (V, R7).
-use Rattle.std.specs.Prelude.{ℕ, ◌≡◌, Bool, true, false, List, [], ◌∷◌, leb, pos, length}
+use Rattle.std.specs.Prelude.{ℕ, ◌≡◌, Bool, true, false, List, [], ◌∷◌, leb, pos, length, Result, Ok, Err}
 use Rattle.basis.specs.Pick.{pick}
 use Rattle.basis.specs.Refusals.{Answer, gives, refuses}
 use Rattle.rdh.specs.declared.rdh_cru.RdhCru.{RdhCru}
 use Rattle.text.specs.Written.{overwritten}
+use Rattle.text.specs.declared.TooShort.{TooShort}
 use Rattle.validators.specs.declared.HeaderId.{HeaderId}
 use Rattle.validators.specs.declared.HeaderId.TheVariants.{Configured, NotSettled, Settled}
 use Rattle.validators.specs.declared.RdhCruSanityValidator.{RdhCruSanityValidator}
 use Rattle.validators.specs.declared.SanityCheck.{SanityCheck}
 use Rattle.validators.specs.declared.Verdict.{Verdict}
-use Rattle.validators.specs.declared.Verdict.TheVariants.{Sound, NotSound, TooShort}
+use Rattle.validators.specs.declared.Verdict.TheVariants.{Sound, NotSound}
 use Rattle.sanity.specs.Tests.{sound, text_of_verdict}
 use Rattle.sanity.specs.declared.Criteria.{Criteria}
 
@@ -25,9 +26,12 @@ settled_id (Configured n) id = Configured n
 settled_id NotSettled id = Settled id
 settled_id (Settled n) id = Settled n
 
--- What a validator holds a header to (V1, V2).
+-- What a validator holds a header with this ID to (V1, V2).
+abbrev pub held_to : RdhCruSanityValidator → ℕ → Criteria
+held_to v id = record { header_id = expected_id v.header_id id; its = v.its }
+
 abbrev pub criteria_of : RdhCruSanityValidator → RdhCru → Criteria
-criteria_of v h = record { header_id = expected_id v.header_id h.rdh0.header_id; its = v.its }
+criteria_of v h = held_to v h.rdh0.header_id
 
 -- Whether a validator finds a header sound, and its text.
 unfoldable pub sound_to : RdhCruSanityValidator → RdhCru → Bool
@@ -49,11 +53,11 @@ pub record Judged : Type 0 where
   pub is_sound : Bool
   pub text_length : ℕ
 
--- What each case of the code's enum says: a verdict, or refusal 7 with the length needed.
-abbrev pub verdict_answer : Verdict → Answer Judged
-verdict_answer Sound = gives (record { is_sound = true; text_length = 0 })
-verdict_answer (NotSound n) = gives (record { is_sound = false; text_length = n })
-verdict_answer (TooShort n) = refuses 7 (pos n ∷ [])
+-- What each case of the code's result says: a verdict, or refusal 7 with the length needed.
+abbrev pub verdict_answer : Result Verdict TooShort → Answer Judged
+verdict_answer (Ok Sound) = gives (record { is_sound = true; text_length = 0 })
+verdict_answer (Ok (NotSound n)) = gives (record { is_sound = false; text_length = n })
+verdict_answer (Err e) = refuses 7 (pos e.needed ∷ [])
 
 -- What a check answers whose header has this text, for a buffer of a length (V7, R7).
 abbrev pub judged_in : (is_sound : Bool) (text : List ℕ) (room : ℕ) → Answer Judged
@@ -80,8 +84,16 @@ pub record Checks (v : RdhCruSanityValidator) (h : RdhCru) (l : List ℕ) (r : S
   pub leaves : m ≡ overwritten (text_of v h) l
 
 -- The same of a check on any validator, by the verdict and the text of what is checked: `said` and `kept` are its reply.
-pub record Judges (A : Type 0) (is_sound : Bool) (text : List ℕ) (settled unsettled : A) (l : List ℕ) (said : Verdict) (kept : A)
+pub record Judges (A : Type 0) (is_sound : Bool) (text : List ℕ) (settled unsettled : A) (l : List ℕ) (said : Result Verdict TooShort) (kept : A)
     (m : List ℕ) : Type 0 where
   pub verdict : verdict_answer said ≡ judged_in is_sound text (length l)
   pub validator : kept ≡ kept_in text (length l) settled unsettled
   pub leaves : m ≡ overwritten text l
+
+-- The contract of a check of anything that a validator checks, by its header ID and, as it is held to a header ID and a setting, by whether it
+-- is sound and by the text that names its failures. What is sound has no text (V1, V2, V3, V5).
+abbrev pub ChecksBy : RdhCruSanityValidator → (id : ℕ) → (Criteria → Bool) → (Criteria → List ℕ) → List ℕ → SanityCheck → List ℕ → Type 0
+ChecksBy v id is_sound failures l r m =
+    let criteria = held_to v id in
+    Judges RdhCruSanityValidator (is_sound criteria) (pick (is_sound criteria) [] (failures criteria))
+    (holding v (settled_id v.header_id id)) v l r.verdict r.validator m

@@ -2,45 +2,72 @@
 #![tactic(auto)]
 
 ghost use Rattle.std.specs.Prelude.{◌≡◌};
-ghost use Rattle.sanity.specs.Tests.{failure_text};
-ghost use Rattle.text.specs.Written.{Needed};
-ghost use Rattle.validators.specs.Verdict.{Checks, criteria_of, expected_id, settled_by, settled_id};
+ghost use Rattle.validators.specs.Lent.{ChecksLent};
+ghost use Rattle.validators.specs.Verdict.{Checks, ChecksBy, expected_id, held_to, holding, settled_id};
 
+use checked::{Checked, Failures};
 use rdh::rdh_cru::RdhCru;
 use sanity::Criteria;
+use text::TooShort;
+use text_writer::write_text;
+
+pub mod checked;
 
 // The header ID that headers are held to: the configured version; or none yet; or that of the first header checked.
-#[derive(Clone, Copy)]
+#[derive(Clone, Copy, Debug, PartialEq, Eq)]
 pub enum HeaderId {
     Configured(u8),
     NotSettled,
     Settled(u8),
 }
 
+impl HeaderId {
+    // The header ID that a header with this ID is held to.
+    pub fn expected(self, id: u8) -> u8
+        ensures { result ≡ expected_id self id }
+    {
+        match self {
+            HeaderId::Configured(n) => n,
+            HeaderId::NotSettled => id,
+            HeaderId::Settled(n) => n,
+        }
+    }
+
+    // What is settled once a header with this ID has been checked.
+    pub fn settled(self, id: u8) -> HeaderId
+        ensures { result ≡ settled_id self id }
+    {
+        match self {
+            HeaderId::Configured(n) => HeaderId::Configured(n),
+            HeaderId::NotSettled => HeaderId::Settled(id),
+            HeaderId::Settled(n) => HeaderId::Settled(n),
+        }
+    }
+}
+
 // A validator: its settings (a configured version or none, and whether the system id is tested as that of the ITS), and what it has
 // settled. A new one is `Configured` or `NotSettled`.
-#[derive(Clone, Copy)]
+#[derive(Clone, Copy, Debug, PartialEq, Eq)]
 pub struct RdhCruSanityValidator {
     pub header_id: HeaderId,
     pub its: bool,
 }
 
-// Sound; not sound, with the length of the text that was written; or refused with the length that the text needs.
-#[derive(Clone, Copy)]
+// Sound; or not sound, with the length of the text that was written.
+#[derive(Clone, Copy, Debug, PartialEq, Eq)]
 pub enum Verdict {
     Sound,
     NotSound(usize),
-    TooShort(usize),
 }
 
-// A check's reply: the verdict, and the validator for the next header.
-#[derive(Clone, Copy)]
+// A check's reply: the verdict, or that the buffer is too short for the text; and the validator for the next header.
+#[derive(Clone, Copy, Debug, PartialEq, Eq)]
 pub struct SanityCheck {
-    pub verdict: Verdict,
+    pub verdict: Result<Verdict, TooShort>,
     pub validator: RdhCruSanityValidator,
 }
 
-// The length of the longest text: a buffer of this length is never too short.
+// The length of the longest text of a header: a buffer of this length is never too short.
 const LONGEST_TEXT: usize = 406;
 
 impl RdhCruSanityValidator {
@@ -49,79 +76,60 @@ impl RdhCruSanityValidator {
     pub fn sanity_check(self, rdh: RdhCru, text: &mut [u8]) -> SanityCheck
         ensures { Checks self rdh text.old result text.new }
     {
-        let criteria = self.criteria(rdh);
-        let settled = self.settled_by(rdh);
-        if !sanity_words::fails(criteria, rdh) {
+        self.check(rdh, text)
+    }
+
+    // The same by a validator that is lent, as the Rust's `sanity_check(&mut self, ..)`: it is updated where it stands.
+    pub fn sanity_check_lent(&mut self, rdh: RdhCru, text: &mut [u8]) -> Result<Verdict, TooShort>
+        ensures { ChecksLent self.old rdh text.old result self.new text.new }
+    {
+        let check = self.sanity_check(rdh, text);
+        *self = check.validator;
+        check.verdict
+    }
+
+    // The check of anything that a validator checks, a header or a word of it.
+    pub fn check<C: Checked>(self, checked: C, text: &mut [u8]) -> SanityCheck
+        ensures { ChecksBy self (C.id checked) (C.sound checked) (C.failures checked) text.old result text.new }
+    {
+        let id = checked.header_id();
+        let criteria = self.criteria(id);
+        let settled = self.settled_by(id);
+        if !checked.fails(criteria) {
             return SanityCheck {
-                verdict: Verdict::Sound,
+                verdict: Ok(Verdict::Sound),
                 validator: settled,
             };
         }
-        let need = needed(criteria, rdh, text.len());
-        if text.len() < need {
-            return SanityCheck {
-                verdict: Verdict::TooShort(need),
+        match write_text(Failures { criteria, checked }, text) {
+            Ok(length) => SanityCheck {
+                verdict: Ok(Verdict::NotSound(length)),
+                validator: settled, // the ID is settled though the header fails
+            },
+            Err(too_short) => SanityCheck {
+                verdict: Err(too_short),
                 validator: self,
-            };
-        }
-        SanityCheck {
-            verdict: Verdict::NotSound(sanity_texts::put_text(text, 0, criteria, rdh)),
-            validator: settled, // the ID is settled though the header fails
+            },
         }
     }
 
-    // What a header is held to.
-    fn criteria(self, rdh: RdhCru) -> Criteria
-        ensures { result ≡ criteria_of self rdh }
+    // What something with this header ID is held to.
+    fn criteria(self, id: u8) -> Criteria
+        ensures { result ≡ held_to self id }
     {
-        let header_id = self.header_id;
         Criteria {
-            header_id: expected_id(header_id, rdh.rdh0.header_id),
+            header_id: self.header_id.expected(id),
             its: self.its,
         }
     }
 
-    // The validator once a header has been checked.
-    fn settled_by(self, rdh: RdhCru) -> RdhCruSanityValidator
-        ensures { result ≡ settled_by self rdh }
+    // The validator once something with this header ID has been checked.
+    fn settled_by(self, id: u8) -> RdhCruSanityValidator
+        ensures { result ≡ holding self (settled_id self.header_id id) }
     {
-        let header_id = self.header_id;
         RdhCruSanityValidator {
-            header_id: settled_id(header_id, rdh.rdh0.header_id),
-            its: self.its,
+            header_id: self.header_id.settled(id),
+            ..self
         }
     }
-}
-
-// The header ID that a header with this ID is held to.
-pub fn expected_id(header_id: HeaderId, id: u8) -> u8
-    ensures { result ≡ expected_id header_id id }
-{
-    match header_id {
-        HeaderId::Configured(n) => n,
-        HeaderId::NotSettled => id,
-        HeaderId::Settled(n) => n,
-    }
-}
-
-// What is settled once a header with this ID has been checked.
-pub fn settled_id(header_id: HeaderId, id: u8) -> HeaderId
-    ensures { result ≡ settled_id header_id id }
-{
-    match header_id {
-        HeaderId::Configured(n) => HeaderId::Configured(n),
-        HeaderId::NotSettled => HeaderId::Settled(id),
-        HeaderId::Settled(n) => HeaderId::Settled(n),
-    }
-}
-
-// The length that the text of a header that is not sound needs, or 0 where any text fits the room.
-fn needed(criteria: Criteria, rdh: RdhCru, room: usize) -> usize
-    ensures { Needed (failure_text criteria rdh) room result }
-{
-    if LONGEST_TEXT <= room {
-        return 0;
-    }
-    let mut none = [0u8; 0];
-    sanity_texts::put_text(&mut none, 0, criteria, rdh)
 }

@@ -1,82 +1,51 @@
-// The verdict on a header's first word alone: the Rust's `Rdh0Validator`.
+// The verdict on a header's first word alone: what the Rust's `Rdh0Validator` says.
 #![tactic(auto)]
 
-ghost use Rattle.std.specs.Prelude.{◌≡◌, length};
-ghost use Rattle.sanity.specs.Tests.{rdh0_tests, section};
-ghost use Rattle.validators_rdh0.specs.Rdh0Verdict.{Checks, criteria_of, settled_by};
+ghost use Rattle.std.specs.Prelude.{not};
+ghost use Rattle.sanity.specs.Tests.{any_fails, rdh0_tests, section};
+ghost use Rattle.validators_rdh0.specs.Rdh0Verdict.{Checks};
 
 use rdh::rdh0::Rdh0;
 use sanity::Criteria;
-use validators::{HeaderId, Verdict};
+use text_writer::TextWriter;
+use validators::checked::Checked;
+use validators::{RdhCruSanityValidator, SanityCheck};
 
-// Its settings and what it has settled, as those of a validator of whole headers.
-#[derive(Clone, Copy)]
-pub struct Rdh0Validator {
-    pub header_id: HeaderId,
-    pub its: bool,
-}
+// The length of the longest text: a buffer of this length is never too short.
+const LONGEST_TEXT: usize = 174;
 
-// A check's reply: the verdict, and the validator for the next word.
-#[derive(Clone, Copy)]
-pub struct Rdh0Check {
-    pub verdict: Verdict,
-    pub validator: Rdh0Validator,
-}
+// RDH0, checked without the rest of its header.
+#[derive(Clone, Copy, Debug, PartialEq, Eq)]
+pub struct FirstWord(pub Rdh0);
 
-impl Rdh0Validator {
-    // Checks RDH0, and writes the text that names what is wrong with it at the start of `text`. What is settled goes by the same rules as
-    // for a whole header.
-    pub fn sanity_check(self, rdh0: Rdh0, text: &mut [u8]) -> Rdh0Check
-        ensures { Checks self rdh0 text.old result text.new }
-    {
-        let criteria = self.criteria(rdh0);
-        let settled = self.settled_by(rdh0);
-        if !sanity_words::rdh0::fails(criteria, rdh0) {
-            return Rdh0Check {
-                verdict: Verdict::Sound,
-                validator: settled,
-            };
-        }
-        let need = needed(criteria, rdh0);
-        if text.len() < need {
-            return Rdh0Check {
-                verdict: Verdict::TooShort(need),
-                validator: self,
-            };
-        }
-        Rdh0Check {
-            verdict: Verdict::NotSound(sanity_texts::rdh0::put(text, 0, criteria, rdh0)),
-            validator: settled, // the ID is settled though the word fails
-        }
+impl Checked for FirstWord {
+    ghost id = { λ w. w.0.header_id };
+
+    ghost sound = { λ w criteria. not (any_fails (rdh0_tests criteria w.0)) };
+
+    ghost failures = { λ w criteria. section "RDH0: " (rdh0_tests criteria w.0) };
+
+    fn header_id(self) -> u8 {
+        self.0.header_id
     }
 
-    // What RDH0 is held to.
-    fn criteria(self, rdh0: Rdh0) -> Criteria
-        ensures { result ≡ criteria_of self rdh0 }
-    {
-        let header_id = self.header_id;
-        Criteria {
-            header_id: validators::expected_id(header_id, rdh0.header_id),
-            its: self.its,
-        }
+    fn fails(self, criteria: Criteria) -> bool {
+        sanity_words::rdh0::fails(criteria, self.0)
     }
 
-    // The validator once RDH0 has been checked.
-    fn settled_by(self, rdh0: Rdh0) -> Rdh0Validator
-        ensures { result ≡ settled_by self rdh0 }
-    {
-        let header_id = self.header_id;
-        Rdh0Validator {
-            header_id: validators::settled_id(header_id, rdh0.header_id),
-            its: self.its,
-        }
+    fn longest(self, _criteria: Criteria) -> usize {
+        LONGEST_TEXT
+    }
+
+    fn put(self, criteria: Criteria, w: &mut TextWriter) {
+        sanity_texts::rdh0::put(w, criteria, self.0);
     }
 }
 
-// The length of the text.
-fn needed(criteria: Criteria, rdh0: Rdh0) -> usize
-    ensures { result ≡ length (section "RDH0: " (rdh0_tests criteria rdh0)) }
+// Checks RDH0, and writes the text that names what is wrong with it at the start of `text`. The validator is one of whole headers: what is
+// settled goes by the same rules.
+pub fn sanity_check(validator: RdhCruSanityValidator, rdh0: Rdh0, text: &mut [u8]) -> SanityCheck
+    ensures { Checks validator rdh0 text.old result text.new }
 {
-    let mut none = [0u8; 0];
-    sanity_texts::rdh0::put(&mut none, 0, criteria, rdh0)
+    validator.check(FirstWord(rdh0), text)
 }

@@ -6,8 +6,8 @@
 use rdh::rdh0::{FeeId, Rdh0};
 use std::io;
 use std::io::{ErrorKind, Read};
-use validators::{HeaderId, Verdict};
-use validators_rdh0::Rdh0Validator;
+use text::TooShort;
+use validators::{HeaderId, RdhCruSanityValidator, Verdict};
 
 const MOST_WORDS: u32 = 8192;
 
@@ -22,36 +22,37 @@ fn rdh0_of(word: [u8; 8]) -> Rdh0 {
     }
 }
 
-fn show(rt: &impl Print, verdict: Verdict, text: &[u8]) -> io::Result<()> {
+fn show(rt: &impl Print, verdict: Result<Verdict, TooShort>, text: &[u8]) -> io::Result<()> {
     match verdict {
-        Verdict::Sound => cases_show::text(rt, b"sound")?,
-        Verdict::NotSound(length) => {
-            let start = 0;
+        Ok(Verdict::Sound) => cases_show::text(rt, b"sound")?,
+        Ok(Verdict::NotSound(length)) => {
             if length <= text.len() {
-                cases_show::text(rt, &text[start..length])?;
+                cases_show::text(rt, &text[..length])?;
             }
         }
-        Verdict::TooShort(length) => cases_show::number(rt, length as u64)?,
+        Err(too_short) => cases_show::number(rt, too_short.needed as u64)?,
     }
     cases_show::end(rt)
 }
 
-fn answer(rt: &impl Print, validator: Rdh0Validator, rdh0: Rdh0) -> io::Result<Rdh0Validator> {
+fn answer(
+    rt: &impl Print,
+    validator: RdhCruSanityValidator,
+    rdh0: Rdh0,
+) -> io::Result<RdhCruSanityValidator> {
     let mut text = [0u8; 256];
-    let check = validator.sanity_check(rdh0, &mut text);
-    let verdict = check.verdict;
-    show(rt, verdict, &text)?;
+    let check = validators_rdh0::sanity_check(validator, rdh0, &mut text);
+    show(rt, check.verdict, &text)?;
     Ok(check.validator)
 }
 
 fn main(rt: HostRuntime) -> io::Result<()> {
-    let mut validator = Rdh0Validator {
+    let mut validator = RdhCruSanityValidator {
         header_id: HeaderId::NotSettled,
         its: false,
     };
     let mut input = rt.stdin();
-    let mut done: u32 = 0;
-    while done < MOST_WORDS {
+    for _ in 0..MOST_WORDS {
         let mut word = [0u8; 8];
         match input.read_exact(&mut word) {
             Ok(()) => {}
@@ -59,7 +60,6 @@ fn main(rt: HostRuntime) -> io::Result<()> {
             Err(e) => return Err(e),
         }
         validator = answer(&rt, validator, rdh0_of(word))?;
-        done += 1;
     }
     Ok(())
 }

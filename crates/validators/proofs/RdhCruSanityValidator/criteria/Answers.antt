@@ -1,5 +1,0 @@
--- The expected header ID, and the setting.
-use Rattle.validators.proofs.RdhCruSanityValidator.criteria.Goals as goal
-
-pub returns : goal.returns
-returns c = λ i. record { header_id = c.expected_id.ensures i; its = c.args.self.its }
