@@ -42,11 +42,10 @@ impl From<SanityCheck> for PlainChecked {
     fn from(check: SanityCheck) -> PlainChecked
         ensures { result ≡ plain_checked (verdict_answer check.verdict) check.validator }
     {
-        let verdict = check.verdict;
-        let (length, refusal, sound) = match verdict {
-            Verdict::Sound => (0, NO_REFUSAL, true),
-            Verdict::NotSound(length) => (length, NO_REFUSAL, false),
-            Verdict::TooShort(length) => (length, BUFFER_TOO_SHORT, false),
+        let (length, refusal, sound) = match check.verdict {
+            Ok(Verdict::Sound) => (0, NO_REFUSAL, true),
+            Ok(Verdict::NotSound(length)) => (length, NO_REFUSAL, false),
+            Err(short) => (short.needed, BUFFER_TOO_SHORT, false),
         };
         PlainChecked {
             length,
