@@ -23,7 +23,7 @@ pub const LIMIT: u64 = 1_152_921_504_606_846_976;
 #[derive(Clone, Copy, Debug, Default, PartialEq, Eq)]
 pub struct Position(pub u64);
 
-#[derive(Clone, Copy)]
+#[derive(Clone, Copy, Debug, PartialEq, Eq)]
 pub struct Settings {
     pub filter: FilterOpt,
     pub skip_payload: bool,
@@ -107,7 +107,7 @@ pub struct Part {
 }
 
 // A packet: its header, where its payload is in the window, the position at which its load started, and its own, at which its header stands.
-#[derive(Clone, Copy)]
+#[derive(Clone, Copy, Debug, PartialEq, Eq)]
 pub struct Packet {
     pub rdh: RdhCru,
     pub payload: Part,
@@ -162,7 +162,7 @@ impl Error for Refusal {}
 
 // What a load answers, unless it is refused: a packet, or a want for so many bytes from a place on. Where the examination of one header answers
 // none, the header was passed.
-#[derive(Clone, Copy)]
+#[derive(Clone, Copy, Debug, PartialEq, Eq)]
 pub enum LoadCdp {
     Packet(Packet),
     Want(BytePlace, u64),
@@ -179,7 +179,7 @@ pub enum Outcome {
 }
 
 // The three counts after a header, each with whether it was full and started again.
-#[derive(Clone, Copy)]
+#[derive(Clone, Copy, Debug, PartialEq, Eq)]
 pub struct Tally {
     pub seen: Count,
     pub filtered: Count,
@@ -187,7 +187,7 @@ pub struct Tally {
 }
 
 // A window on the recording: its bytes from the place `first` on. The recording ends with the `last` one.
-#[derive(Clone, Copy)]
+#[derive(Clone, Copy, Debug, PartialEq, Eq)]
 pub struct Window<'a> {
     pub bytes: &'a [u8],
     pub first: BytePlace,

@@ -12,7 +12,7 @@ use scan_cdp::{BytePlace, LoadCdp, Marks, Refusal, Scan};
 pub const WANTED_HEADER: u64 = RDH_CRU_SIZE_BYTES as u64;
 
 // What the examination of one header replies. What it leaves is in the scan.
-#[derive(Clone, Copy)]
+#[derive(Clone, Copy, Debug, PartialEq, Eq)]
 pub struct Examination {
     pub answer: Result<Option<LoadCdp>, Refusal>,
     pub marks: Marks,
