@@ -1,7 +1,7 @@
 -- Laws of filling in a number's digits from the last one back: its numeral is that of the rest, then the digits that stand there.
-use Rattle.std.specs.Prelude.{ℕ, zero, suc, ◌-◌, ◌/◌, ◌%◌, ◌^◌, ◌≤◌, ◌<◌, ◌≡◌, List, [], ◌∷◌, ◌++◌, map, length, set, take, drop}
+use Rattle.std.specs.Prelude.{ℕ, zero, suc, ◌-◌, ◌/◌, ◌%◌, ◌^◌, ◌≤◌, ◌<◌, ◌≡◌, List, [], ◌∷◌, ◌++◌, map, length, set, take, drop, replicate}
 use Rattle.std.proofs.Common.{ap, sym, subst, ◌∙◌, append_assoc, append-nil, arith, length-set, length-drop, drop-cons, drop-set-lt, get_or-set_same, take_all}
-use Rattle.std.proofs.lemmas.List.{map-append}
+use Rattle.std.proofs.lemmas.List.{drop_all, length-replicate, map-append}
 use Rattle.std.proofs.Math.Nat.{pow-zero}
 use Rattle.text_numbers.specs.Numerals.{glyph, numeral}
 use Rattle.text_numbers.specs.NumeralLaws.{numeral_last, numeral-step, quotient_below}
@@ -50,6 +50,18 @@ drop-set l k d h =
     drop-cons (set l k d) k d (omega (arith, length-set l k d))
     ∙ ap (λ (x : ℕ). x ∷ drop (suc k) (set l k d)) (get_or-set_same l k d d h)
     ∙ ap (λ (u : List ℕ). d ∷ u) (drop-set-lt (suc k) l k d (omega arith))
+
+-- so it does in an array of zeros
+pub first_filled : {rest d : ℕ} (spell : ℕ → ℕ) (base most n : ℕ) → 0 < base → 0 < most → n < base ^ most → d ≡ spell (glyph (n % base))
+    → rest ≡ n / base → Filled spell base most (map spell (numeral base most n)) rest (most - 1) (set (replicate most 0) (most - 1) d)
+first_filled {rest} {d} spell base most n pos some room is left =
+    let here : most ≡ suc (most - 1) = omega arith in
+    let long = length-replicate {A = ℕ} most 0 in
+    last_filled spell base most n pos (length-set (replicate most 0) (most - 1) d ∙ long) (omega arith)
+    (subst (λ (k : ℕ). n < base ^ k) here room)
+    (drop-set (replicate most 0) (most - 1) d (omega (arith, long))
+    ∙ ap (λ (u : List ℕ). d ∷ u) (drop_all (suc (most - 1)) (replicate most 0) (omega (arith, long))))
+    is left (ap (λ (k : ℕ). map spell (numeral base k n)) here)
 
 -- where there is a rest, there is a place in front
 pub place_left : {spell : ℕ → ℕ} {base most rest first : ℕ} {t l : List ℕ} → Filled spell base most t rest first l → 0 < rest

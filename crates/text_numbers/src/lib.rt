@@ -1,49 +1,43 @@
 // Numbers as texts in a lent buffer, put as `text` puts bytes: in decimal, in hexadecimal, and with blanks up to a width.
 #![tactic(auto)]
 
-ghost use Rattle.std.specs.Prelude.{◌≡◌, ◌-◌, ◌<◌};
+ghost use Rattle.std.specs.Prelude.{◌≡◌, ◌-◌, ◌++◌, map};
+ghost use Rattle.text.specs.Ascii.{ascii};
 ghost use Rattle.text.specs.Put.{Put};
-ghost use Rattle.text_numbers.specs.Numerals.{decimal, glyph, hex, left, right};
+ghost use Rattle.text_numbers.specs.Numerals.{cased, decimal, hex, left, numeral, right, upper_hex};
 
-use crate::hex_digits::put_hex_digits;
+use digits::put_digits;
 use text::{put_blanks, put_bytes};
 
-mod hex_digits;
+mod digits;
 
-// A digit's byte, `0` to `9` and then `a` to `f`.
-fn digit(d: u64) -> u8
-    requires { d < 16 }
-    ensures { result ≡ glyph d }
-{
-    if d < 10 {
-        (48 + d) as u8
-    } else {
-        (87 + d) as u8
-    }
-}
-
-// A number in decimal. Its digits are filled in from the last one back, and put in one go: 20 places hold those of any number.
+// A number in decimal: 20 places hold the digits of any number.
 pub fn put_decimal(out: &mut [u8], at: usize, n: u64) -> usize
     ensures { Put out.old at (decimal n) out.new result }
 {
-    let mut digits = [0u8; 20];
-    let mut first = 19;
-    digits[first] = digit(n % 10);
-    let mut rest = n / 10;
-    while 0 < rest {
-        first -= 1;
-        digits[first] = digit(rest % 10);
-        rest /= 10;
-    }
-    put_bytes(out, at, &digits[first..])
+    put_digits::<10, 20, false>(out, at, n)
 }
 
 // A number in hexadecimal, in lower case and with `0x` in front.
 pub fn put_hex(out: &mut [u8], at: usize, n: u64) -> usize
     ensures { Put out.old at (hex n) out.new result }
 {
+    put_prefixed::<false>(out, at, n)
+}
+
+// A number in hexadecimal, in upper case and with `0x` in front: Rust's `{:#X}`.
+pub fn put_upper_hex(out: &mut [u8], at: usize, n: u64) -> usize
+    ensures { Put out.old at (upper_hex n) out.new result }
+{
+    put_prefixed::<true>(out, at, n)
+}
+
+// `0x` and the digits: 16 places hold those of any number.
+fn put_prefixed<const UPPER: bool>(out: &mut [u8], at: usize, n: u64) -> usize
+    ensures { Put out.old at (ascii "0x" ++ map (cased UPPER) (numeral 16 16 n)) out.new result }
+{
     let next = put_bytes(out, at, b"0x");
-    put_hex_digits(out, next, n)
+    put_digits::<16, 16, UPPER>(out, next, n)
 }
 
 // A number in decimal, with blanks behind it up to the width: Rust's `{:<width}`.
@@ -66,13 +60,7 @@ pub fn put_hex_left(out: &mut [u8], at: usize, n: u64, width: usize) -> usize
 fn lacking(at: usize, next: usize, width: usize) -> usize
     ensures { result ≡ width - (next - at) }
 {
-    if next <= at {
-        return width;
-    }
-    if width <= next - at {
-        return 0;
-    }
-    width - (next - at)
+    width.saturating_sub(next.saturating_sub(at))
 }
 
 // A number in decimal, with blanks in front of it up to the width: Rust's `{:>width}`.

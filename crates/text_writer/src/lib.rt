@@ -3,7 +3,7 @@
 #![tactic(auto)]
 
 ghost use Rattle.std.specs.Prelude.{◌≡◌, [], ◌∷◌, suc, length, replicate, take};
-ghost use Rattle.text_numbers.specs.Numerals.{decimal, hex, left, right};
+ghost use Rattle.text_numbers.specs.Numerals.{decimal, hex, left, right, upper_hex};
 ghost use Rattle.text_writer.specs.Writer.{begun, extended};
 
 pub use whole::{Text, write_text};
@@ -64,6 +64,13 @@ impl<'a> TextWriter<'a> {
         ensures { self.new ≡ extended self.old (hex n) }
     {
         self.count = text_numbers::put_hex(&mut *self.buf, self.count, n);
+    }
+
+    // A number in hexadecimal, in upper case and with `0x` in front.
+    pub fn write_upper_hex(&mut self, n: u64)
+        ensures { self.new ≡ extended self.old (upper_hex n) }
+    {
+        self.count = text_numbers::put_upper_hex(&mut *self.buf, self.count, n);
     }
 
     // A number in decimal, with blanks behind it up to the width.

@@ -1,21 +1,9 @@
--- The digits are filled in from the last one back, each in front of those that stand there, until there is no rest.
-use mathlib.Core.Path.{refl, sym}
+-- The digits have no letters.
 use mathlib.Core.List.{map-id}
-use Prim.Native.Nat.{ℕ}
-use native.Mathlib.Omega.{arith}
 use Rattle.text.specs.PutLaws.{respelled}
 use Rattle.text_numbers.specs.Numerals.{decimal}
-use Rattle.text_numbers.specs.FillLaws.{all_filled, last_filled, next_filled}
 use Rattle.text_numbers.proofs.put_decimal.Goals as goal
 
-pub loop-rest-init : goal.loop-rest-init
-unfolding decimal
-loop-rest-init c =
-    last_filled (λ (b : ℕ). b) 10 20 c.args.n (omega arith) refl (omega arith) (omega arith) refl
-    c.digit.ensures (omega arith) (sym (map-id _))
-
-pub loop-rest-preserved : goal.loop-rest-preserved
-loop-rest-preserved c = next_filled (omega arith) c.loop-rest.invariant (omega arith) c.digit-in-loop-rest.ensures (omega arith)
-
 pub returns : goal.returns
-returns c = respelled (all_filled c.loop-rest.invariant (omega arith)) c.put_bytes.ensures
+unfolding decimal
+returns c = respelled (map-id _) c.put_digits.ensures

@@ -1,8 +1,11 @@
--- `0x`, then the digits.
+-- The letters stay in lower case.
+use Rattle.std.proofs.Common.{List, ℕ, ap, ◌++◌}
+use mathlib.Core.List.{map-id}
+use Rattle.text.specs.Ascii.{ascii}
+use Rattle.text.specs.PutLaws.{respelled}
 use Rattle.text_numbers.specs.Numerals.{hex}
-use Rattle.text.specs.PutLaws.{and_then}
 use Rattle.text_numbers.proofs.put_hex.Goals as goal
 
 pub returns : goal.returns
 unfolding hex
-returns c = and_then c.put_bytes-next.ensures c.put_hex_digits.ensures
+returns c = respelled (ap (λ (t : List ℕ). ascii "0x" ++ t) (map-id _)) c.put_prefixed.ensures
