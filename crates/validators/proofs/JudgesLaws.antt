@@ -57,24 +57,30 @@ module _ {A : Type 0} {is_sound : Bool} {text l : List ℕ} {settled unsettled :
         leaves = w.leaves;
       }
 
--- The three cases of what a check answers and leaves, by what the code finds out: the criteria, and whether any test fails.
-module _ (v : RdhCruSanityValidator) (id : ℕ) (is_sound : Criteria → Bool) (failures : Criteria → List ℕ) {criteria : Criteria}
-    (own : criteria ≡ held_to v id) {b : Bool} (is : b ≡ is_sound criteria) where
+-- The three cases of what a check answers and leaves, by what the code finds out: the header ID, the criteria, and whether any test fails.
+module _ (v : RdhCruSanityValidator) {n id : ℕ} (has : n ≡ id) (is_sound : Criteria → Bool) (failures : Criteria → List ℕ)
+    {criteria : Criteria} (own : criteria ≡ held_to v n) {b : Bool} (is : b ≡ is_sound criteria) where
+  held : criteria ≡ held_to v id
+  held = own ∙ ap (held_to v) has
+
   judged : {s : Bool} → b ≡ s → is_sound (held_to v id) ≡ s
-  judged e = sym (ap is_sound own) ∙ sym is ∙ e
+  judged e = sym (ap is_sound held) ∙ sym is ∙ e
 
   text_is : b ≡ false → failures criteria ≡ pick (is_sound (held_to v id)) [] (failures (held_to v id))
-  text_is e = ap failures own ∙ sym (off _ _ (judged e))
+  text_is e = ap failures held ∙ sym (off _ _ (judged e))
 
-  pub by_sound : {w : RdhCruSanityValidator} {l : List ℕ} → b ≡ true → w ≡ holding v (settled_id v.header_id id)
+  settled : {w : RdhCruSanityValidator} → w ≡ holding v (settled_id v.header_id n) → w ≡ holding v (settled_id v.header_id id)
+  settled e = e ∙ ap (λ (k : ℕ). holding v (settled_id v.header_id k)) has
+
+  pub by_sound : {w : RdhCruSanityValidator} {l : List ℕ} → b ≡ true → w ≡ holding v (settled_id v.header_id n)
       → ChecksBy v id is_sound failures l (record { verdict = Ok Sound; validator = w }) l
-  by_sound e settles = judges_sound (judged e) (on _ _ (judged e)) settles
+  by_sound e settles = judges_sound (judged e) (on _ _ (judged e)) (settled settles)
 
-  pub by_unsound : {w : RdhCruSanityValidator} {l m : List ℕ} {n : ℕ} → b ≡ false → Writes (failures criteria) l (Ok n) m
-      → w ≡ holding v (settled_id v.header_id id)
-      → ChecksBy v id is_sound failures l (record { verdict = Ok (NotSound n); validator = w }) m
-  by_unsound {l = l} {m = m} {n = n} e p settles =
-      judges_unsound (judged e) (subst (λ (t : List ℕ). Writes t l (Ok n) m) (text_is e) p) settles
+  pub by_unsound : {w : RdhCruSanityValidator} {l m : List ℕ} {k : ℕ} → b ≡ false → Writes (failures criteria) l (Ok k) m
+      → w ≡ holding v (settled_id v.header_id n)
+      → ChecksBy v id is_sound failures l (record { verdict = Ok (NotSound k); validator = w }) m
+  by_unsound {l = l} {m = m} {k = k} e p settles =
+      judges_unsound (judged e) (subst (λ (t : List ℕ). Writes t l (Ok k) m) (text_is e) p) (settled settles)
 
   pub by_too_short : {l m : List ℕ} {e : TooShort} → b ≡ false → Writes (failures criteria) l (Err e) m
       → ChecksBy v id is_sound failures l (record { verdict = Err e; validator = v }) m

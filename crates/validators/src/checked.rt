@@ -43,6 +43,7 @@ impl Checked for RdhCru {
         self.rdh0.header_id
     }
 
+    #[tactic(auto, unfolding(sanity::specs::Tests::sound))]
     fn fails(self, criteria: Criteria) -> bool {
         sanity_words::fails(criteria, self)
     }
