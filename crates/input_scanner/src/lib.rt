@@ -1,141 +1,80 @@
 // The scan of a recording through a window: one examination, and the load above it.
 #![tactic(auto)]
 
-ghost use Rattle.std.specs.Prelude.{◌≡◌, ◌+◌, ◌≤◌};
-ghost use Rattle.basis.specs.Pick.{pick};
-ghost use Rattle.scan_cdp.specs.Steps.{limit, with_lent};
+ghost use Rattle.std.specs.Prelude.{◌≡◌, ◌≤◌, take};
+ghost use Rattle.stats.specs.Lists.{twice};
+ghost use Rattle.scan_cdp.specs.Loads.{loaded, together};
+ghost use Rattle.scan_cdp.specs.Scans.{SameScan, state_of};
+ghost use Rattle.scan_cdp.specs.Steps.{limit};
 ghost use Rattle.scan_cdp.specs.Windows.{examined};
-ghost use Rattle.scan_cdp.specs.Loads.{either_initial, loaded, no_load_marks, together};
 ghost use Rattle.scan_replies.specs.Examinations.{examination_of};
 ghost use Rattle.input_scanner.specs.Replies.{load_of};
 
-use scan_cdp::{
-    BytePlace, Examined, Initial, LoadCdp, LoadMarks, Marks, Progress, Refusal, Settings,
-};
-use scan_replies::{Examination, unchanged};
+use scan_cdp::{LoadCdp, LoadMarks, Marks, Refusal, Scan, Window};
+use scan_replies::Examination;
 use scan_step::take_step;
-use trigger_stats::COUNTERS;
 
-// What a load replies. Links, trigger counts and FEE ids are left where they are lent.
-#[derive(Clone, Copy)]
+// What a load replies. What it leaves is in the scan.
+#[derive(Clone, Copy, Debug, PartialEq, Eq)]
 pub struct Load {
-    pub answer: LoadCdp,
+    pub answer: Result<LoadCdp, Refusal>,
     pub marks: LoadMarks,
-    pub progress: Progress,
 }
 
-// Examines the header at the byte place. `window` holds the recording's bytes from `first` on, and the recording ends with it if it is the
-// `last`.
-pub fn examine(
-    set: Settings,
-    progress: Progress,
-    links: &mut [u8; 256],
-    triggers: &mut [u32; COUNTERS],
-    fee_ids: &mut [u16],
-    window: &[u8],
-    first: BytePlace,
-    last: bool,
-) -> Examination
-    ensures { examination_of result links.new triggers.new fee_ids.new
-        ≡ examined set (with_lent progress links.old triggers.old) fee_ids.old window.now
-        first.0 last }
+// Examines the header at the byte place.
+pub fn examine(scan: &mut Scan, window: Window) -> Examination
+    ensures examined { examination_of result scan.new
+        ≡ examined scan.old.set (state_of scan.old) scan.old.fee_ids.now window.entry.bytes.now window.entry.first.0
+        window.entry.last }
+    ensures same { SameScan scan.old scan.new }
 {
-    if stats::has_link_twice(links, progress.links_used) {
-        return unchanged(progress, LoadCdp::Refused(Refusal::Unusable));
+    if lists_link_twice(scan) {
+        return Examination::unmarked(Err(Refusal::Unusable));
     }
-    take_step(set, progress, links, triggers, fee_ids, window, first, last)
+    take_step(scan, window)
 }
 
 // Loads the next packet: examines headers up to the first that is not passed.
-pub fn load_cdp(
-    set: Settings,
-    progress: Progress,
-    links: &mut [u8; 256],
-    triggers: &mut [u32; COUNTERS],
-    fee_ids: &mut [u16],
-    window: &[u8],
-    first: BytePlace,
-    last: bool,
-) -> Load
-    ensures { load_of result links.new triggers.new fee_ids.new
-        ≡ loaded set (with_lent progress links.old triggers.old) fee_ids.old window.now
-        first.0 last }
+pub fn load_cdp(scan: &mut Scan, window: Window) -> Load
+    ensures loaded { load_of result scan.new
+        ≡ loaded scan.old.set (state_of scan.old) scan.old.fee_ids.now window.entry.bytes.now window.entry.first.0
+        window.entry.last }
+    ensures same { SameScan scan.old scan.new }
 {
-    let mut progress = progress;
-    let mut marks = no_load_marks();
-    if stats::has_link_twice(links, progress.links_used) {
+    let mut marks = LoadMarks::default();
+    if lists_link_twice(scan) {
         return Load {
-            answer: LoadCdp::Refused(Refusal::Unusable),
+            answer: Err(Refusal::Unusable),
             marks,
-            progress,
         };
     }
-    let answer = loop {
-        let next = take_step(set, progress, links, triggers, fee_ids, window, first, last);
-        let next_marks = next.marks;
-        marks = together(marks, next_marks);
-        progress = next.progress;
-        let answer = next.answer;
-        match answer {
-            Examined::Passed => {}
-            Examined::Answered(found) => break found,
+    loop {
+        let next = take_step(scan, window);
+        marks = together(marks, next.marks);
+        if let Some(answer) = next.answer.transpose() {
+            return Load { answer, marks };
         }
-    };
-    Load {
-        answer,
-        marks,
-        progress,
     }
 }
 
-fn no_load_marks() -> LoadMarks
-    ensures { result ≡ no_load_marks }
+// Refusal 6 by a link that is listed twice.
+fn lists_link_twice(scan: &Scan) -> bool
+    ensures { result ≡ twice (take scan.now.progress.links_used scan.now.links.now) }
 {
-    LoadMarks {
-        initial: Initial::None,
-        seen_carries: 0,
-        filtered_carry: false,
-        payload_carry: false,
-        payload_cut: false,
-    }
+    stats::has_link_twice(scan.links, scan.progress.links_used)
 }
 
 // The marks of the examinations so far with those of the next one.
+#[tactic(auto, unfolding(scan_cdp::specs::Loads::together))]
 fn together(marks: LoadMarks, next: Marks) -> LoadMarks
     requires { marks.seen_carries ≤ limit }
     ensures { result ≡ together marks next }
 {
-    let initial = marks.initial;
-    let next_initial = next.initial;
     LoadMarks {
-        initial: either_initial(initial, next_initial),
-        seen_carries: with_carry(marks.seen_carries, next.seen_carry),
+        initial: marks.initial.or(next.initial),
+        seen_carries: marks.seen_carries + u64::from(next.seen_carry),
         filtered_carry: marks.filtered_carry | next.filtered_carry,
         payload_carry: marks.payload_carry | next.payload_carry,
         payload_cut: marks.payload_cut | next.payload_cut,
     }
-}
-
-// The earlier of two initial marks.
-fn either_initial(initial: Initial, next: Initial) -> Initial
-    ensures { result ≡ either_initial initial next }
-{
-    match initial {
-        Initial::None => next,
-        Initial::Report(trigger_type, data_format, system_id) => Initial::Report(
-            trigger_type,
-            data_format,
-            system_id,
-        ),
-    }
-}
-
-fn with_carry(count: u64, carry: bool) -> u64
-    requires { count ≤ limit }
-    ensures { result ≡ pick carry (count + 1) count }
-{
-    if carry {
-        return count + 1;
-    }
-    count
 }

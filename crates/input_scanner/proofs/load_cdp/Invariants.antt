@@ -1,13 +1,15 @@
-use Prim.Native.Nat.{◌+◌, ◌-◌}
-use lib.ListN.{length}
-use Rattle.scan_cdp.specs.Steps.{with_lent}
+use Rattle.std.proofs.Common.{◌+◌, ◌-◌, length}
+use Rattle.scan_cdp.specs.Loads.{no_load_marks}
+use Rattle.scan_cdp.specs.Scans.{SameScan, state_of}
 use Rattle.scan_laws.proofs.LoadTurnLaws.{LoadTurn}
 use Rattle.input_scanner.proofs.load_cdp.Given as goal
 
-abbrev pub invariant-loop-found : goal.invariant-loop-found
-invariant-loop-found l =
-    LoadTurn l.set l.initial.marks (with_lent l.initial.progress l.initial.links l.initial.triggers) l.initial.fee_ids l.window l.first.0 l.last l.marks (with_lent l.progress l.links l.triggers) l.fee_ids
+-- The scan goes on as the same one, and the whole load is the load from here on.
+abbrev pub invariant-loop-answer : goal.invariant-loop-answer
+invariant-loop-answer l =
+    SameScan l.fn.scan l.scan
+    × LoadTurn l.fn.scan.set no_load_marks (state_of l.fn.scan) l.fn.scan.fee_ids.now l.window.bytes.now l.window.first.0 l.window.last
+    l.marks (state_of l.scan) l.scan.fee_ids.now
 
-abbrev pub decreases-loop-found : goal.decreases-loop-found
-decreases-loop-found l =
-    l.first.0 + length l.window - l.progress.place.0
+abbrev pub decreases-loop-answer : goal.decreases-loop-answer
+decreases-loop-answer l = l.window.first.0 + length l.window.bytes.now - l.scan.progress.place.0
