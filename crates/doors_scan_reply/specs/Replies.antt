@@ -1,7 +1,6 @@
 -- The reply of a call, as structs that C has too.
-use Rattle.std.specs.Prelude.{ℕ, Bool, List, [], ◌∷◌, ℤ, nat_abs, pos, Option}
+use Rattle.std.specs.Prelude.{ℕ, List, [], ◌∷◌, ℤ, nat_abs, pos, Option}
 use Rattle.std.specs.Option.{is_some, unwrap_or}
-use Rattle.basis.specs.Pick.{pick}
 use Rattle.basis.specs.Refusals.{Answer, gives, refuses}
 use Rattle.serde_rdh.specs.Layout.{encoded_into}
 use Rattle.scan_cdp.specs.Answers.{Found, handed, passed, refusal, wants}
@@ -88,10 +87,6 @@ plain_marks m =
       payload_carry = m.payload_carry;
       payload_cut = m.payload_cut;
     }
-
--- How many carries an examination has, which has one or none.
-abbrev pub carries : Bool → ℕ
-carries carry = pick carry 1 0
 
 -- ---- the reply
 

@@ -4,11 +4,10 @@
 ghost use Rattle.std.specs.Prelude.{◌≡◌};
 ghost use Rattle.basis.specs.Refusals.{gives};
 ghost use Rattle.scan_cdp.specs.Answers.{examined_answer, found_by};
-ghost use Rattle.scan_cdp.specs.Loads.{no_load_marks, together};
 ghost use Rattle.doors_scan_reply.specs.Replies.{plain_answer, plain_marks, refusal_answer, refused_with, reply_of};
 
 use doors_scan_structs::PlainState;
-use scan_cdp::{LoadCdp, LoadMarks, Marks, Progress, Refusal};
+use scan_cdp::{LoadCdp, LoadMarks, Progress, Refusal};
 
 // The kinds of an answer, by C's numbers. Only an examination passes a header. Only a listing meets a full buffer: one that may have no room
 // for the next packet's lines.
@@ -161,19 +160,5 @@ impl From<LoadMarks> for PlainMarks {
                 ..counted
             },
         }
-    }
-}
-
-// The marks of an examination, as those of a load that makes no other.
-#[tactic(auto, unfolding(scan_cdp::specs::Loads::together))]
-pub fn alone(marks: Marks) -> LoadMarks
-    ensures { result ≡ together no_load_marks marks }
-{
-    LoadMarks {
-        initial: marks.initial,
-        seen_carries: u64::from(marks.seen_carry),
-        filtered_carry: marks.filtered_carry,
-        payload_carry: marks.payload_carry,
-        payload_cut: marks.payload_cut,
     }
 }

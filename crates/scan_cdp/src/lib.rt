@@ -3,6 +3,7 @@
 
 ghost use Rattle.std.specs.Prelude.{◌≡◌};
 ghost use Rattle.scan_cdp.specs.Answers.{number_of};
+ghost use Rattle.scan_cdp.specs.Loads.{no_load_marks, together};
 ghost use Rattle.scan_cdp.specs.Steps.{new_state};
 
 use filter::FilterOpt;
@@ -97,6 +98,22 @@ pub struct LoadMarks {
     pub filtered_carry: bool,
     pub payload_carry: bool,
     pub payload_cut: bool,
+}
+
+// The marks of an examination, as those of a load that makes no other.
+impl From<Marks> for LoadMarks {
+    #[tactic(auto, unfolding(crate::specs::Loads::together))]
+    fn from(marks: Marks) -> LoadMarks
+        ensures { result ≡ together no_load_marks marks }
+    {
+        LoadMarks {
+            initial: marks.initial,
+            seen_carries: u64::from(marks.seen_carry),
+            filtered_carry: marks.filtered_carry,
+            payload_carry: marks.payload_carry,
+            payload_cut: marks.payload_cut,
+        }
+    }
 }
 
 // A part of the window (W9).
