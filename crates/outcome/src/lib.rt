@@ -2,11 +2,10 @@
 #![tactic(auto)]
 
 ghost use Rattle.std.specs.Prelude.{◌≡◌};
-ghost use Rattle.scan_cdp.specs.Steps.{is_first};
 ghost use Rattle.scan_cdp.specs.Outcomes.{bad_memory_size, bad_offset, is_counted, filtered, hands_out, matched, outcome_of};
 
 use rdh::rdh_cru::{RDH_SIZE, RdhCru};
-use scan_cdp::{Outcome, Position, Settings};
+use scan_cdp::{Outcome, Settings};
 
 // The largest offset: 10 KB behind the header.
 const MAX_OFFSET: u16 = 10_064;
@@ -58,29 +57,33 @@ fn filtered(set: Settings, rdh: RdhCru) -> Outcome
     Outcome::HandedOut
 }
 
-// Whether step 2 counted the header.
-pub fn is_counted(first: bool, outcome: Outcome) -> bool
-    ensures { result ≡ is_counted first outcome }
-{
-    first | (outcome != Outcome::BadOffset)
+// A header with its outcome, in a scan that is asked for `set`.
+#[derive(Clone, Copy)]
+pub struct Judged {
+    pub set: Settings,
+    pub rdh: RdhCru,
+    pub first: bool, // of its load
+    pub outcome: Outcome,
 }
 
-// Whether the header matched the filter and came to the test of its memory size.
-pub fn is_match(outcome: Outcome) -> bool
-    ensures { result ≡ matched outcome }
-{
-    matches!(outcome, Outcome::MemorySize | Outcome::HandedOut)
-}
+impl Judged {
+    // Whether step 2 counted the header.
+    pub fn is_counted(self) -> bool
+        ensures { result ≡ is_counted self.first self.outcome }
+    {
+        self.first | (self.outcome != Outcome::BadOffset)
+    }
 
-pub fn hands_out(outcome: Outcome) -> bool
-    ensures { result ≡ hands_out outcome }
-{
-    outcome == Outcome::HandedOut
-}
+    // Whether the header matched the filter and came to the test of its memory size.
+    pub fn is_match(self) -> bool
+        ensures { result ≡ matched self.outcome }
+    {
+        matches!(self.outcome, Outcome::MemorySize | Outcome::HandedOut)
+    }
 
-// Whether a header is the first of its load.
-pub fn is_first(load: Option<Position>) -> bool
-    ensures { result ≡ is_first load }
-{
-    load.is_none()
+    pub fn hands_out(self) -> bool
+        ensures { result ≡ hands_out self.outcome }
+    {
+        self.outcome == Outcome::HandedOut
+    }
 }

@@ -4,11 +4,12 @@
 ghost use Rattle.std.specs.Prelude.{◌≡◌};
 ghost use Rattle.scan_cdp.specs.Steps.{raised, tallied};
 
-use rdh::rdh_cru::RdhCru;
-use scan_cdp::{Counts, Outcome, Settings, Tally};
+use outcome::Judged;
+use scan_cdp::{Counts, Tally};
 use stats::Count;
 
 // The count with `n` more, if it is to be raised.
+#[tactic(auto, unfolding(scan_cdp::specs::Steps::raised))]
 fn raised(due: bool, count: u32, n: u32) -> Count
     ensures { result ≡ raised due count n }
 {
@@ -21,27 +22,17 @@ fn raised(due: bool, count: u32, n: u32) -> Count
     }
 }
 
-// The counts after a header that has this outcome.
-pub fn tallied(set: Settings, first: bool, outcome: Outcome, counts: Counts, rdh: RdhCru) -> Tally
-    ensures { result ≡ tallied set first outcome counts rdh }
+// The counts after a header that has its outcome.
+#[tactic(auto, unfolding(scan_cdp::specs::Steps::tallied))]
+pub fn tallied(judged: Judged, counts: Counts) -> Tally
+    ensures { result ≡ tallied judged.set judged.first judged.outcome counts judged.rdh }
 {
-    let filtering = filter::filter_enabled(set.filter);
-    let size = rdh.payload_size() as u32;
+    let stats = judged.set.stats;
+    let filtering = filter::filter_enabled(judged.set.filter);
+    let size = u32::from(judged.rdh.payload_size());
     Tally {
-        seen: raised(
-            set.stats & outcome::is_counted(first, outcome),
-            counts.seen,
-            1,
-        ),
-        filtered: raised(
-            set.stats & filtering & outcome::is_match(outcome),
-            counts.filtered,
-            1,
-        ),
-        payload: raised(
-            set.stats & outcome::hands_out(outcome),
-            counts.payload,
-            size,
-        ),
+        seen: raised(stats & judged.is_counted(), counts.seen, 1),
+        filtered: raised(stats & filtering & judged.is_match(), counts.filtered, 1),
+        payload: raised(stats & judged.hands_out(), counts.payload, size),
     }
 }

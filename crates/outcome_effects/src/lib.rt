@@ -6,20 +6,17 @@ ghost use Rattle.scan_cdp.specs.Answers.{examined_answer};
 ghost use Rattle.scan_cdp.specs.Outcomes.{skip_distance};
 ghost use Rattle.scan_cdp.specs.Steps.{answer_in, initial_of};
 
-use rdh::rdh_cru::{RDH_CRU_SIZE_BYTES, RdhCru};
+use outcome::Judged;
+use rdh::rdh_cru::RDH_CRU_SIZE_BYTES;
 use scan_cdp::{Initial, LoadCdp, Outcome, Packet, Part, Position, Refusal};
 
 // The initial mark, before anything is counted.
 #[tactic(auto, unfolding(scan_cdp::specs::Steps::initial_of))]
-pub fn initial_collect_stats(
-    stats: bool,
-    first: bool,
-    position: Position,
-    rdh: RdhCru,
-) -> Option<Initial>
-    ensures { result ≡ initial_of stats first position rdh }
+pub fn initial_collect_stats(judged: Judged, position: Position) -> Option<Initial>
+    ensures { result ≡ initial_of judged.set.stats judged.first position judged.rdh }
 {
-    if stats & first & (position.0 == 0) {
+    let rdh = judged.rdh;
+    if judged.set.stats & judged.first & (position.0 == 0) {
         return Some(Initial {
             trigger_type: rdh.rdh2.trigger_type,
             data_format: rdh.data_format(),
@@ -31,24 +28,23 @@ pub fn initial_collect_stats(
 
 // The answer for a header at this position, in a load that started at `start`.
 pub fn answer(
-    outcome: Outcome,
-    rdh: RdhCru,
+    judged: Judged,
     payload: Part,
     start: Position,
     position: Position,
 ) -> Result<Option<LoadCdp>, Refusal>
-    ensures { examined_answer result ≡ answer_in outcome rdh payload start position }
+    ensures { examined_answer result ≡ answer_in judged.outcome judged.rdh payload start position }
 {
-    match outcome {
+    match judged.outcome {
         Outcome::FeeIdsFull => Err(Refusal::FeeIdsFull),
         Outcome::BadOffset => Err(Refusal::OffsetToNext(
-            skip_distance(rdh.offset_new_packet),
+            skip_distance(judged.rdh.offset_new_packet),
             position,
         )),
         Outcome::MemorySize => Err(Refusal::MemorySize),
         Outcome::Passed => Ok(None),
         Outcome::HandedOut => Ok(Some(LoadCdp::Packet(Packet {
-            rdh,
+            rdh: judged.rdh,
             payload,
             position: start,
             own: position,

@@ -6,43 +6,44 @@ ghost use Rattle.outcome_moves.specs.Moves.{PlaceMoves, PositionMoves};
 ghost use Rattle.scan_cdp.specs.Steps.{load_after, start_of};
 ghost use Rattle.scan_cdp.specs.declared.Outcome.TheVariants.{HandedOut};
 
-use outcome_payload::is_cut;
-use rdh::rdh_cru::{RDH_CRU_SIZE_BYTES, RdhCru};
+use outcome::Judged;
+use outcome_payload::is_short;
+use rdh::rdh_cru::RDH_CRU_SIZE_BYTES;
 use scan_cdp::{Outcome, Position};
 
 // How far the byte place moves on.
 #[tactic(auto, unfolding(scan_cdp::specs::Steps::place_after))]
-pub fn place_moved(skip: bool, outcome: Outcome, rdh: RdhCru, left: usize) -> usize
-    ensures { PlaceMoves skip outcome rdh left result × (result ≤ left + 65535) }
+pub fn place_moved(judged: Judged, left: usize) -> usize
+    ensures { PlaceMoves judged.set.skip_payload judged.outcome judged.rdh left result × (result ≤ left + 65535) }
 {
-    match outcome {
+    match judged.outcome {
         Outcome::FeeIdsFull | Outcome::BadOffset | Outcome::MemorySize => RDH_CRU_SIZE_BYTES,
-        Outcome::Passed => usize::from(rdh.offset_new_packet),
-        Outcome::HandedOut => read_moved(skip, rdh, left),
+        Outcome::Passed => usize::from(judged.rdh.offset_new_packet),
+        Outcome::HandedOut => read_moved(judged, left),
     }
 }
 
 // How far it moves on behind a packet: after a payload was read by the memory size, and not by the offset; at a cut one to the end.
-#[tactic(auto, unfolding(scan_cdp::specs::Steps::place_after))]
-fn read_moved(skip: bool, rdh: RdhCru, left: usize) -> usize
-    ensures { PlaceMoves skip HandedOut rdh left result × (result ≤ left + 65535) }
+#[tactic(auto, unfolding(scan_cdp::specs::Steps::cut, scan_cdp::specs::Steps::place_after))]
+fn read_moved(judged: Judged, left: usize) -> usize
+    ensures { PlaceMoves judged.set.skip_payload HandedOut judged.rdh left result × (result ≤ left + 65535) }
 {
-    if skip {
-        return usize::from(rdh.offset_new_packet);
+    if judged.set.skip_payload {
+        return usize::from(judged.rdh.offset_new_packet);
     }
-    if is_cut(skip, Outcome::HandedOut, rdh, left) {
+    if is_short(judged.rdh, left) {
         return left;
     }
-    usize::from(rdh.memory_size)
+    usize::from(judged.rdh.memory_size)
 }
 
 // How far the reported position moves on.
-pub fn position_moved(outcome: Outcome, rdh: RdhCru) -> u64
-    ensures { PositionMoves outcome rdh result × (result ≤ 65535) }
+pub fn position_moved(judged: Judged) -> u64
+    ensures { PositionMoves judged.outcome judged.rdh result × (result ≤ 65535) }
 {
-    match outcome {
+    match judged.outcome {
         Outcome::FeeIdsFull | Outcome::BadOffset | Outcome::MemorySize => 0,
-        Outcome::Passed | Outcome::HandedOut => u64::from(rdh.offset_new_packet),
+        Outcome::Passed | Outcome::HandedOut => u64::from(judged.rdh.offset_new_packet),
     }
 }
 

@@ -1,34 +1,46 @@
 // How much of a packet's payload is handed out, and where it stands in the window.
 #![tactic(auto)]
 
-ghost use Rattle.std.specs.Prelude.{◌≡◌};
+ghost use Rattle.std.specs.Prelude.{◌≡◌, ◌+◌, nat_lt};
+ghost use Rattle.scan_cdp.specs.Outcomes.{payload_size};
 ghost use Rattle.scan_cdp.specs.Steps.{cut};
 ghost use Rattle.scan_cdp.specs.Windows.{part_at};
 ghost use Rattle.outcome_payload.specs.Reads.{Reads};
 
+use outcome::Judged;
 use rdh::rdh_cru::{RDH_CRU_SIZE_BYTES, RdhCru};
-use scan_cdp::{Outcome, Part};
+use scan_cdp::Part;
 
 // Whether the payload is to be read and does not all stand in the bytes left, counted from the header's first byte.
-pub fn is_cut(skip: bool, outcome: Outcome, rdh: RdhCru, left: usize) -> bool
-    ensures { result ≡ cut skip outcome rdh left }
+#[tactic(auto, unfolding(scan_cdp::specs::Steps::cut))]
+pub fn is_cut(judged: Judged, left: usize) -> bool
+    ensures { result ≡ cut judged.set.skip_payload judged.outcome judged.rdh left }
 {
-    let need = RDH_CRU_SIZE_BYTES + rdh.payload_size() as usize;
-    outcome::hands_out(outcome) & !skip & (left < need)
+    judged.hands_out() & !judged.set.skip_payload & is_short(judged.rdh, left)
+}
+
+// Whether the payload does not all stand in them.
+pub fn is_short(rdh: RdhCru, left: usize) -> bool
+    ensures { result ≡ nat_lt left (64 + payload_size rdh) }
+{
+    left < RDH_CRU_SIZE_BYTES + usize::from(rdh.payload_size())
 }
 
 // How many bytes of payload are handed out, if the header is.
-pub fn read_size(skip: bool, rdh: RdhCru, left: usize) -> usize
-    ensures { Reads skip rdh left result }
+#[tactic(auto, unfolding(scan_cdp::specs::Steps::cut, scan_cdp::specs::Steps::payload_of))]
+pub fn read_size(judged: Judged, left: usize) -> usize
+    ensures { Reads judged.set.skip_payload judged.rdh left result }
 {
-    let cut = is_cut(skip, Outcome::HandedOut, rdh, left);
-    if skip | cut {
-        return 0;
+    let none = judged.set.skip_payload | is_short(judged.rdh, left);
+    if none {
+        0
+    } else {
+        usize::from(judged.rdh.payload_size())
     }
-    rdh.payload_size() as usize
 }
 
 // The part of the window that a payload takes.
+#[tactic(auto, unfolding(scan_cdp::specs::Windows::part_at))]
 pub fn part(start: usize, length: usize) -> Part
     ensures { result ≡ part_at start length }
 {

@@ -20,7 +20,7 @@ use Rattle.scan_step.specs.declared.Header.{Header}
 use Rattle.scan_replies.specs.Examinations.{examination_of, lacking}
 use Rattle.scan_replies.specs.declared.Examination.{Examination}
 use Rattle.scan_window.specs.UnusableLaws.{inside}
-use Rattle.scan_step.specs.Headers.{RepliesFor, Stepped, listed}
+use Rattle.scan_step.specs.Headers.{RepliesFor, Stepped, judged_in, listed}
 
 -- ---- a header
 
@@ -44,7 +44,7 @@ module _ (s : Scan) (h : Header) (last : Bool) where
 
   -- a header that is listed and passed
   pub header_entered : wanted ≡ false → {due : Bool} {r : Examination} {after : Scan} → due ≡ lists s.set outcome s.progress
-      → Stepped (listed due h.rdh s) outcome h r after → RepliesFor s h last (examination_of r after)
+      → Stepped (listed due h.rdh s) (judged_in s h.rdh) h r after → RepliesFor s h last (examination_of r after)
   unfolding entry_of marks_of progress_after
   header_entered e {due} {r} {after} is entered rest size =
       there ∙ sym (off _ _ (wanted_for rest size (s.progress.place.0 + h.left) ∙ e))

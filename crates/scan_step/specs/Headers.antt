@@ -2,12 +2,12 @@
 use Rattle.std.specs.Prelude.{◌≡◌, ℕ, ◌+◌, ◌^◌, ◌<◌, ◌≤◌, Bool, List, length}
 use denote.MutBor.{at_last}
 use Rattle.rdh.specs.declared.rdh_cru.RdhCru.{RdhCru}
+use Rattle.outcome.specs.declared.Judged.{Judged}
 use Rattle.scan_cdp.specs.Answers.{examined_answer}
 use Rattle.scan_cdp.specs.Outcomes.{header_fee_id, header_trigger_type}
 use Rattle.scan_cdp.specs.Scans.{state_of}
-use Rattle.scan_cdp.specs.Steps.{Entry, answer_in, entry_of, limit, marks_of, outcome_in, payload_of, places_listed, progress_after, start_of, triggers_after, used_listed}
+use Rattle.scan_cdp.specs.Steps.{Entry, answer_in, entry_of, is_first, limit, marks_of, outcome_in, payload_of, places_listed, progress_after, start_of, triggers_after, used_listed}
 use Rattle.scan_cdp.specs.Windows.{placed, reply_for}
-use Rattle.scan_cdp.specs.declared.Outcome.{Outcome}
 use Rattle.scan_cdp.specs.declared.Part.{Part}
 use Rattle.scan_cdp.specs.declared.Progress.{Progress}
 use Rattle.scan_cdp.specs.declared.Scan.{Scan}
@@ -40,16 +40,22 @@ listed due h s =
       fee_ids = at_last s.fee_ids (places_listed due (header_fee_id h) p.fee_ids_used s.fee_ids.now);
     }
 
--- The reply for a header that has an outcome, and the scan behind it, which has listed it.
-pub record Stepped (s : Scan) (t : Outcome) (h : Header) (r : Examination) (after : Scan) : Type 0 where
+-- A header with its outcome in a scan.
+abbrev pub judged_in : Scan → RdhCru → Judged
+judged_in s h =
+    record { set = s.set; rdh = h; first = is_first s.progress.load; outcome = outcome_in s.set s.progress s.fee_ids.now h }
+
+-- The reply for a header that has its outcome, and the scan behind it, which has listed it.
+pub record Stepped (s : Scan) (j : Judged) (h : Header) (r : Examination) (after : Scan) : Type 0 where
   pub answer : (rest : List ℕ) → length rest ≡ h.left
       → examined_answer r.answer
       ≡ placed (h.start + 64)
-      (answer_in t h.rdh (payload_of s.set.skip_payload t h.rdh rest) (start_of s.progress.load s.progress.position) s.progress.position)
-  pub marks : r.marks ≡ marks_of s.set t s.progress h.rdh h.left
+      (answer_in j.outcome j.rdh (payload_of j.set.skip_payload j.outcome j.rdh rest) (start_of s.progress.load s.progress.position) s.progress.position)
+  pub marks : r.marks ≡ marks_of j.set j.outcome s.progress j.rdh h.left
   pub left : after
       ≡ record s {
-        progress = progress_after s.set t s.progress h.rdh h.left (s.progress.place.0 + h.left) s.progress.links_used s.progress.fee_ids_used;
+        progress =
+            progress_after j.set j.outcome s.progress j.rdh h.left (s.progress.place.0 + h.left) s.progress.links_used s.progress.fee_ids_used;
       }
 
 -- The reply for a header whose outcome is not known yet: that of an examination whose step finds it.

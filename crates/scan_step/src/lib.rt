@@ -4,17 +4,16 @@
 ghost use Rattle.std.specs.Prelude.{◌≡◌, ◌&&◌, length};
 ghost use Rattle.scan_cdp.specs.Scans.{SameScan, state_of};
 ghost use Rattle.scan_cdp.specs.Outcomes.{header_fee_id};
-ghost use Rattle.scan_cdp.specs.Steps.{numbers_unusable, outcome_in};
+ghost use Rattle.scan_cdp.specs.Steps.{is_first, numbers_unusable};
 ghost use Rattle.scan_cdp.specs.Windows.{examined_unless};
 ghost use Rattle.scan_replies.specs.Examinations.{examination_of};
 ghost use Rattle.stats.specs.Lists.{full};
-ghost use Rattle.scan_step.specs.Headers.{HeaderHere, RepliesFor, Stepped, listed};
+ghost use Rattle.scan_step.specs.Headers.{HeaderHere, RepliesFor, Stepped, judged_in, listed};
 
 use crate::triggers::count_trigger;
+use outcome::Judged;
 use rdh::rdh_cru::{RDH_CRU_SIZE_BYTES, RdhCru};
-use scan_cdp::{
-    BytePlace, Counts, LoadCdp, Marks, Outcome, Position, Progress, Refusal, Scan, Window,
-};
+use scan_cdp::{BytePlace, Counts, LoadCdp, Marks, Position, Progress, Refusal, Scan, Window};
 use scan_lists::list_if_due;
 use scan_replies::{Examination, WANTED_HEADER, lacking};
 use scan_window::{numbers_unusable, outside, start_in};
@@ -63,25 +62,29 @@ impl Header {
         ensures examined { RepliesFor scan.old self.now last (examination_of result scan.new) }
         ensures same { SameScan scan.old scan.new }
     {
-        let set = scan.set;
-        let outcome = self.outcome(scan);
-        if !last & outcome_payload::is_cut(set.skip_payload, outcome, self.rdh, self.left) {
+        let judged = self.judge(scan);
+        if !last & outcome_payload::is_cut(judged, self.left) {
             let size = WANTED_HEADER + self.rdh.payload_size() as u64;
             return Examination::unmarked(Ok(Some(LoadCdp::Want(scan.progress.place, size))));
         }
-        let first = outcome::is_first(scan.progress.load);
-        let counted = outcome::is_counted(first, outcome);
-        self.list(scan, set.stats & counted);
-        self.pass(scan, outcome)
+        self.list(scan, judged.set.stats & judged.is_counted());
+        self.pass(scan, judged)
     }
 
     // What becomes of the header.
     #[tactic(auto, unfolding(scan_cdp::specs::Steps::outcome_in))]
-    fn outcome(&self, scan: &Scan) -> Outcome
-        ensures { result ≡ outcome_in scan.now.set scan.now.progress scan.now.fee_ids.now self.now.rdh }
+    fn judge(&self, scan: &Scan) -> Judged
+        ensures { result ≡ judged_in scan.now self.now.rdh }
     {
-        let first = outcome::is_first(scan.progress.load);
-        outcome::outcome_of(scan.set, first, self.lacks_place(scan), self.rdh)
+        let Scan { set, progress, .. } = *scan;
+        let first = progress.load.is_none();
+        let outcome = outcome::outcome_of(set, first, self.lacks_place(scan), self.rdh);
+        Judged {
+            set,
+            rdh: self.rdh,
+            first,
+            outcome,
+        }
     }
 
     // Whether its FEE id is to be listed, is new, and has no place.
@@ -110,11 +113,11 @@ impl Header {
     }
 
     // The reply for the header, which has an outcome, with the scan moved on behind it.
-    fn pass(&self, scan: &mut Scan, outcome: Outcome) -> Examination
-        requires { HeaderHere scan.old.progress self.now }
-        ensures { Stepped scan.old outcome self.now result scan.new }
+    fn pass(&self, scan: &mut Scan, judged: Judged) -> Examination
+        requires here { HeaderHere scan.old.progress self.now }
+        requires first { judged.first ≡ is_first scan.old.progress.load }
+        ensures { Stepped scan.old judged self.now result scan.new }
     {
-        let set = scan.set;
         let Progress {
             place,
             position,
@@ -122,18 +125,15 @@ impl Header {
             counts,
             ..
         } = scan.progress;
-        let first = outcome::is_first(load);
         let payload = outcome_payload::part(
             self.start + RDH_CRU_SIZE_BYTES,
-            outcome_payload::read_size(set.skip_payload, self.rdh, self.left),
+            outcome_payload::read_size(judged, self.left),
         );
-        let tally = outcome_counts::tallied(set, first, outcome, counts, self.rdh);
-        let moved = outcome_moves::place_moved(set.skip_payload, outcome, self.rdh, self.left);
+        let tally = outcome_counts::tallied(judged, counts);
+        let moved = outcome_moves::place_moved(judged, self.left);
         scan.progress.place = BytePlace(place.0 + moved as u64);
-        scan.progress.position = Position(
-            position.0 + outcome_moves::position_moved(outcome, self.rdh),
-        );
-        scan.progress.load = outcome_moves::load_after(outcome, load, position);
+        scan.progress.position = Position(position.0 + outcome_moves::position_moved(judged));
+        scan.progress.load = outcome_moves::load_after(judged.outcome, load, position);
         scan.progress.counts = Counts {
             seen: tally.seen.value,
             filtered: tally.filtered.value,
@@ -141,20 +141,13 @@ impl Header {
         };
         let start = outcome_moves::start_of(load, position);
         Examination {
-            answer: outcome_effects::answer(outcome, self.rdh, payload, start, position),
+            answer: outcome_effects::answer(judged, payload, start, position),
             marks: Marks {
-                initial: outcome_effects::initial_collect_stats(
-                    set.stats, first, position, self.rdh,
-                ),
+                initial: outcome_effects::initial_collect_stats(judged, position),
                 seen_carry: tally.seen.carry,
                 filtered_carry: tally.filtered.carry,
                 payload_carry: tally.payload.carry,
-                payload_cut: outcome_payload::is_cut(
-                    set.skip_payload,
-                    outcome,
-                    self.rdh,
-                    self.left,
-                ),
+                payload_cut: outcome_payload::is_cut(judged, self.left),
             },
         }
     }

@@ -1,32 +1,20 @@
--- What is skipped or cut has no bytes; of any other payload all are read.
-use Prim.Native.Nat.{ℕ}
-use mathlib.Core.Bool.{Bool, ◌||◌}
-use mathlib.Core.List.{List}
-use mathlib.Core.Path.{◌≡◌, ap, sym, ◌∙◌}
-use lib.ListN.{length}
-use Rattle.basis.specs.Pick.{pick}
-use Rattle.basis.specs.PickLaws.{on, off}
-use Rattle.rdh.specs.declared.rdh_cru.RdhCru.{RdhCru}
+-- A payload that is neither skipped nor cut is read whole.
+use Rattle.std.proofs.Common.{◌≡◌, ℕ, ◌+◌, Bool, false, not, ◌&&◌, length, ltb, ap, sym, ◌∙◌}
+use Rattle.std.proofs.Math.Bool.{and-false}
+use Rattle.std.proofs.lemmas.Bool.{or_from, or_parts}
+use Rattle.basis.specs.PickLaws.{off}
 use Rattle.scan_cdp.specs.Outcomes.{payload_size}
-use Rattle.scan_cdp.specs.Steps.{cut, payload_of}
-use Rattle.scan_cdp.specs.declared.Outcome.TheVariants.{HandedOut}
+use Rattle.scan_cdp.specs.Steps.{cut}
 use Rattle.scan_laws.proofs.WindowLaws.{payload-length}
 use Rattle.outcome_payload.proofs.read_size.Goals as goal
 
--- the number of bytes, from the test
-size_of : (skip : Bool) (h : RdhCru) (left : ℕ) {short : Bool} → short ≡ cut skip HandedOut h left → (rest : List ℕ) → length rest ≡ left
-    → length (payload_of skip HandedOut h rest) ≡ pick (skip || short) 0 (payload_size h)
-size_of skip h left is rest size =
-    payload-length skip h rest
-    ∙ (λ i. pick (skip || (ap (cut skip HandedOut h) size ∙ sym is) i) 0 (payload_size h))
-
-pub returns-then-skip-cut : goal.returns-then-skip-cut
-returns-then-skip-cut c rest size =
-    let args = c.args in
-    sym (size_of args.skip args.rdh args.left c.is_cut-cut.ensures rest size ∙ on _ _ c.if-skip-cut.true)
-
-pub returns : goal.returns
-returns c rest size =
-    let args = c.args in
-    c.payload_size.ensures
-    ∙ sym (size_of args.skip args.rdh args.left c.is_cut-cut.ensures rest size ∙ off _ _ c.if-skip-cut.false)
+pub returns-else-none : goal.returns-else-none
+unfolding cut
+returns-else-none c rest size =
+    let h = c.args.judged.rdh in
+    let skip = c.args.judged.set.skip_payload in
+    let (unskipped, fits) = or_parts skip c.is_short.result c.if-none.false in
+    let whole : ltb (length rest) (64 + payload_size h) ≡ false = ap (λ (n : ℕ). ltb n (64 + payload_size h)) size ∙ sym c.is_short.ensures ∙ fits in
+    c.from.ensures
+    ∙ c.payload_size.ensures
+    ∙ sym (payload-length skip h rest ∙ off _ _ (or_from _ _ unskipped (ap (λ (b : Bool). not skip && b) whole ∙ and-false (not skip))))

@@ -11,14 +11,14 @@ pub returns : goal.returns
 unfolding marks_of progress_after
 returns c =
     let s = c.args.scan.now in
-    let set = s.set in
+    let set = c.args.judged.set in
     let p = s.progress in
-    let t = c.args.outcome in
+    let t = c.args.judged.outcome in
     let start = c.args.self.now.start in
     let left = c.args.self.now.left in
-    let h = c.args.self.now.rdh in
+    let h = c.args.judged.rdh in
     let skip = set.skip_payload in
-    let first = c.is_first-first.ensures in
+    let first = c.requires.first in
     let payload : (rest : List ℕ) → length rest ≡ left
     → c.part-payload.result ≡ part_at (start + 64) (length (payload_of skip HandedOut h rest)) =
     λ rest size. c.part-payload.ensures ∙ ap (part_at (start + 64)) (c.read_size.ensures rest size) in

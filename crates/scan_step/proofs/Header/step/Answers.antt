@@ -4,7 +4,7 @@ use Rattle.scan_cdp.specs.Outcomes.{is_counted}
 use Rattle.scan_cdp.specs.Scans.{state_of}
 use Rattle.scan_cdp.specs.Steps.{cut}
 use Rattle.scan_cdp.specs.Windows.{wanting}
-use Rattle.scan_cdp.specs.declared.Outcome.{Outcome}
+use Rattle.outcome.specs.declared.Judged.{Judged}
 use Rattle.scan_cdp.specs.declared.Scan.{Scan}
 use Rattle.scan_replies.specs.Examinations.{examination_of}
 use Rattle.scan_replies.specs.declared.Examination.{Examination}
@@ -16,7 +16,7 @@ pub returns-then-last-is_cut-clause-examined : goal.returns-then-last-is_cut-cla
 returns-then-last-is_cut-clause-examined c =
     let scan = c.args.scan.now in
     let h = c.args.self.now in
-    let is_cut = c.is_cut.ensures ∙ ap (λ (t : Outcome). cut scan.set.skip_payload t h.rdh h.left) c.outcome-outcome.ensures in
+    let is_cut = c.is_cut.ensures ∙ ap (λ (j : Judged). cut j.set.skip_payload j.outcome j.rdh h.left) c.judge-judged.ensures in
     let wanted = sym (ap (λ (b : Bool). not c.args.last && b) is_cut) ∙ c.if-last-is_cut.true in
     λ rest size.
     ap (λ (r : Examination). examination_of r scan) c.unmarked.ensures
@@ -26,13 +26,11 @@ returns-then-last-is_cut-clause-examined c =
 pub returns-clause-examined : goal.returns-clause-examined
 returns-clause-examined c =
     let scan = c.args.scan.now in
-    let set = scan.set in
     let h = c.args.self.now in
-    let t = c.outcome-outcome.ensures in
-    let is_cut = c.is_cut.ensures ∙ ap (λ (t : Outcome). cut set.skip_payload t h.rdh h.left) t in
+    let judged = c.judge-judged.ensures in
+    let is_cut = c.is_cut.ensures ∙ ap (λ (j : Judged). cut j.set.skip_payload j.outcome j.rdh h.left) judged in
     let not-wanted = sym (ap (λ (b : Bool). not c.args.last && b) is_cut) ∙ c.if-last-is_cut.false in
-    let counted = c.is_counted-counted.ensures ∙ (λ i. is_counted (c.is_first-first.ensures i) (t i)) in
-    let due = ap (λ (b : Bool). set.stats && b) counted in
-    header_entered scan h c.args.last not-wanted due
-    (subst (λ (u : Outcome). Stepped (listed (set.stats && c.is_counted-counted.result) h.rdh scan) u h c.pass.result c.pass.new.scan) t
-    (subst (λ (s : Scan). Stepped s c.outcome-outcome.result h c.pass.result c.pass.new.scan) c.list.ensures c.pass.ensures))
+    let counted = c.is_counted.ensures ∙ ap (λ (j : Judged). is_counted j.first j.outcome) judged in
+    header_entered scan h c.args.last not-wanted (λ i. (judged i).set.stats && counted i)
+    (subst (λ (j : Judged). Stepped (listed (c.judge-judged.result.set.stats && c.is_counted.result) h.rdh scan) j h c.pass.result c.pass.new.scan) judged
+    (subst (λ (s : Scan). Stepped s c.judge-judged.result h c.pass.result c.pass.new.scan) c.list.ensures c.pass.ensures))
