@@ -64,11 +64,11 @@ pub fn to_byte_slice(rdh: RdhCru, out: &mut [u8]) -> Result<(), TooFewBytes>
     write_words(out, words(rdh))
 }
 
-// Equality by bytes, which is equality of the fields.
+// Equality by bytes. The fields fill them, so it is the equality of the fields.
 pub fn eq(rdh: RdhCru, other: RdhCru) -> bool
     ensures { Equal rdh other result }
 {
-    words(rdh) == words(other)
+    rdh == other
 }
 
 // The header as eight words of eight bytes, each as one number.
