@@ -7,6 +7,7 @@ ghost use Rattle.serde_rdh_words.specs.WordBytes.{words_into};
 use rdh::rdh_cru::{RDH_CRU_SIZE_BYTES, TooFewBytes};
 
 // Writes the words in a row, from the first byte on, or nothing where there are fewer than 64 bytes.
+#[tactic(auto, using(crate::proofs::WordLaws::left))]
 pub fn write_words(out: &mut [u8], words: [u64; 8]) -> Result<(), TooFewBytes>
     ensures fit { IsOk result ↔ (64 ≤ length out.old) }
     ensures left { out.new ≡ words_into words out.old }

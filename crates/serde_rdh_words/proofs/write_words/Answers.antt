@@ -4,11 +4,8 @@ use Rattle.std.proofs.lemmas.Slice.{take-put_mid, drop-put_mid}
 use Rattle.basis.specs.Bytes.{bytes_of}
 use Rattle.basis.specs.BytesLaws.{length_bytes_of}
 use Rattle.serde_rdh_words.specs.WordBytes.{word_bytes}
-use Rattle.serde_rdh_words.proofs.WordLaws.{eight_bytes, later, left, one_more, written}
+use Rattle.serde_rdh_words.proofs.WordLaws.{eight_bytes, later, one_more, written}
 use Rattle.serde_rdh_words.proofs.write_words.Goals as goal
-
-pub returns-then-out-lt-RDH_CRU_SIZE_BYTES-clause-left : goal.returns-then-out-lt-RDH_CRU_SIZE_BYTES-clause-left
-returns-then-out-lt-RDH_CRU_SIZE_BYTES-clause-left c = left c.args.words c.args.out.now (omega arith)
 
 pub loop-w-init : goal.loop-w-init
 unfolding word_bytes
