@@ -7,7 +7,7 @@ ghost use Rattle.scan_cdp.specs.Outcomes.{skip_distance};
 ghost use Rattle.scan_cdp.specs.Steps.{answer_in, initial_of};
 
 use outcome::Judged;
-use rdh::rdh_cru::RDH_CRU_SIZE_BYTES;
+use rdh::rdh_cru::RDH_SIZE;
 use scan_cdp::{Initial, LoadCdp, Outcome, Packet, Part, Position, Refusal};
 
 // The initial mark, before anything is counted.
@@ -56,5 +56,5 @@ pub fn answer(
 fn skip_distance(offset: u16) -> i32
     ensures { result ≡ skip_distance offset }
 {
-    offset as i32 - RDH_CRU_SIZE_BYTES as i32
+    i32::from(offset) - i32::from(RDH_SIZE)
 }
