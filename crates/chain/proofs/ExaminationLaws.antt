@@ -1,9 +1,10 @@
 -- One examination on a window of a recording: it answers with the next entry of the chain, or it is held back.
 use Rattle.std.specs.Prelude.{ℕ, ◌+◌, ◌-◌, ◌≤◌, ◌<◌, max, Bool, true, false, ◌||◌, ◌&&◌, ◌≡◌, refl, eqb, ltb, take, drop}
+use Rattle.std.proofs.lemmas.List.{nil_from_length}
 use Rattle.std.proofs.Math.Bool.{not}
 use Rattle.std.proofs.Math.Path.{ap, sym}
 use Rattle.std.proofs.Common.{subst, ◌∙◌, arith, length-take, drop-drop}
-use mathlib.Core.List.{List, [], ◌∷◌}
+use mathlib.Core.List.{List, []}
 use borrow.Author.Tests.{eqb-true, le-ltb, lt-ltb, ltb-false}
 use Rattle.std.proofs.Math.ListN.{length}
 use Rattle.basis.specs.Pick.{pick}
@@ -29,16 +30,12 @@ use Rattle.chain.proofs.WindowOfLaws.{same_end, same_greater, same_header, same_
 
 -- ---- the payload is read back from the part of the window
 
-no_bytes : (l : List ℕ) → length l ≡ 0 → [] ≡ l
-no_bytes [] e = refl
-no_bytes (x ∷ l) e = absurd (omega (arith, e))
-
 part_read : (w : List ℕ) (start size : ℕ) → bytes_at w (part_at start (length (take size (drop start w)))) ≡ take size (drop start w)
 unfolding bytes_at part_at
 part_read w start size =
     let bytes = take size (drop start w) in
     by_test (λ (part : Part). bytes_at w part ≡ bytes) (eqb (length bytes) 0) _ _
-    (λ none. no_bytes bytes (eqb-true (length bytes) 0 none))
+    (λ none. sym (nil_from_length bytes (eqb-true (length bytes) 0 none)))
     (λ some. ap (λ (n : ℕ). take n (drop start w)) (length-take size (drop start w)) ∙ fitting size (drop start w))
 
 none_read : (w : List ℕ) (start : ℕ) → bytes_at w (part_at start 0) ≡ []

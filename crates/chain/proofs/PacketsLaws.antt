@@ -2,7 +2,7 @@
 -- tells whether the header there matches.
 use Rattle.std.specs.Prelude.{ℕ, ◌≤◌, true, false, not, ◌&&◌, ◌≡◌, refl, List, [], ◌∷◌, length, Option}
 use Rattle.std.proofs.Common.{true≢false, ap, sym, ◌∙◌, arith}
-use Rattle.std.proofs.lemmas.List.{map-append}
+use Rattle.std.proofs.lemmas.List.{map-append, nil_from_length}
 use Rattle.std.proofs.lemmas.Bool.{not-true}
 use Rattle.basis.specs.Pick.{pick}
 use Rattle.basis.specs.PickLaws.{both, by_test, off, on}
@@ -118,14 +118,10 @@ unfolding served_by
 served_takes set k (examines w) e es = examined_takes k e es (held_back set k w e) (held_seen set k w e)
 served_takes set k (loads w) e es = load_takes set w no_load_marks k e es (no_longer set w es (together no_load_marks e.marks) (left e))
 
-none_left : (es : List (Entry (List ℕ))) → length es ≤ 0 → es ≡ []
-none_left [] few = refl
-none_left (e ∷ es) few = absurd (omega (arith, few))
-
 along_ends : (set : Settings) (k : Kept) (calls : List Call) (es : List (Entry (List ℕ))) → length es ≤ length calls
     → none_held (along set k calls es) ≡ true → to_come set k calls es ≡ []
 unfolding cut_into left_over none_held
-along_ends set k [] es few free_all = none_left es few
+along_ends set k [] es few free_all = nil_from_length es (omega (arith, few))
 along_ends set k (c ∷ cs) [] few free_all = refl
 along_ends set k (c ∷ cs) (e ∷ es) few free_all =
     let o = served_by set k c e es in
