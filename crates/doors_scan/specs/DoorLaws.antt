@@ -1,11 +1,12 @@
 -- What a call leaves says all that it replies.
-use Rattle.std.specs.Prelude.{ℕ, ◌≤◌, Bool, false, true, List, ◌≡◌, length}
+use Rattle.std.specs.Prelude.{ℕ, ◌≤◌, Bool, false, List, ◌≡◌, length, Option, Result}
 use Rattle.std.proofs.Common.{true≢false, sym, subst, arith}
 use Rattle.basis.specs.Refusals.{Answer, gives, refuses}
 use Rattle.scan_cdp.specs.Answers.{Found, examined_answer, handed, passed, wants}
 use Rattle.scan_cdp.specs.Loads.{Loaded, is_passed, loaded, no_load_marks, replied}
 use Rattle.scan_cdp.specs.Steps.{Entry}
-use Rattle.scan_cdp.specs.declared.Examined.{Examined}
+use Rattle.scan_cdp.specs.declared.LoadCdp.{LoadCdp}
+use Rattle.scan_cdp.specs.declared.Refusal.{Refusal}
 use Rattle.scan_cdp.specs.declared.Part.{Part}
 use Rattle.scan_laws.proofs.RunLaws.{loaded-answers}
 use Rattle.doors_scan.specs.Doors.{Left, left_by, loaded_through}
@@ -37,7 +38,7 @@ read_examination l =
     }
 
 -- An answer of the code, with a header of the code if it has one, and a lent array for the header's bytes.
-module _ (a : Examined) (writable : Writable a) (header : List ℕ) (long : 64 ≤ length header) where
+module _ (a : Result (Option LoadCdp) Refusal) (writable : Writable a) (header : List ℕ) (long : 64 ≤ length header) where
   read_back : (answer : Answer (Found Part)) → answer ≡ examined_answer a → read_answer (plain_answer answer) (header_left answer header) ≡ answer
   read_back answer is =
       subst (λ (x : Answer (Found Part)). read_answer (plain_answer x) (header_left x header) ≡ x) (sym is) (answer_again a header writable long)

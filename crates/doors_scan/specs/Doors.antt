@@ -1,13 +1,14 @@
 -- What an examination and a load through C's structs leave.
-use Rattle.std.specs.Prelude.{ℕ, Bool, List, ◌≡◌}
+use Rattle.std.specs.Prelude.{ℕ, Bool, List, ◌≡◌, Option, Result}
 use Rattle.scan_cdp.specs.Answers.{examined_answer}
 use Rattle.scan_cdp.specs.Loads.{Loaded, loaded, no_load_marks, replied}
-use Rattle.scan_cdp.specs.Steps.{with_lent}
+use Rattle.scan_cdp.specs.Scans as Scans
 use Rattle.scan_cdp.specs.Windows.{examined}
-use Rattle.scan_cdp.specs.declared.Examined.{Examined}
+use Rattle.scan_cdp.specs.declared.LoadCdp.{LoadCdp}
 use Rattle.scan_cdp.specs.declared.LoadMarks.{LoadMarks}
 use Rattle.scan_cdp.specs.declared.Part.{Part}
-use Rattle.scan_cdp.specs.declared.Progress.{Progress}
+use Rattle.scan_cdp.specs.declared.Refusal.{Refusal}
+use Rattle.scan_cdp.specs.declared.Scan.{Scan}
 use Rattle.doors_scan_structs.specs.Plain.{settings_of, state_of}
 use Rattle.doors_scan_reply.specs.Replies.{header_left, reply_of}
 use Rattle.doors_scan_structs.specs.declared.PlainSettings.{PlainSettings}
@@ -42,10 +43,8 @@ unfoldable pub loaded_through : PlainSettings → PlainState → (links triggers
 loaded_through settings state links triggers fee_ids w first last header =
     left_by (loaded (settings_of settings) (state_of state links triggers) fee_ids w first last) header
 
--- That a reply and the header's bytes, which were `before`, are those of an answer with its marks and how far it came, whatever links, trigger
--- counts and FEE ids stand beside them.
-abbrev pub HandedBack : Examined → LoadMarks → Progress → (before : List ℕ) → PlainReply → (header : List ℕ) → Type 0
-HandedBack answer marks progress before r header =
-    (links triggers fee_ids : List ℕ)
-    → left r links triggers fee_ids header
-    ≡ left_by (record { answer = examined_answer answer; marks = marks; state = with_lent progress links triggers; fee_ids = fee_ids }) before
+-- That a reply and the header's bytes, which were `before`, are those of an answer with its marks, and of what it left in the scan.
+abbrev pub HandedBack : Result (Option LoadCdp) Refusal → LoadMarks → Scan → (before : List ℕ) → PlainReply → (header : List ℕ) → Type 0
+HandedBack answer marks scan before r header =
+    left r scan.links.now scan.triggers.now scan.fee_ids.now header
+    ≡ left_by (record { answer = examined_answer answer; marks = marks; state = Scans.state_of scan; fee_ids = scan.fee_ids.now }) before

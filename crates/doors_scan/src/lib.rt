@@ -5,16 +5,17 @@ ghost use Rattle.std.specs.Prelude.{◌≡◌};
 ghost use Rattle.doors_scan.specs.Doors.{HandedBack, examined_through, left, loaded_through};
 
 use crate::header::put_header;
-use doors_scan_reply::{PlainReply, alone, reply_of};
-use doors_scan_structs::{PlainSettings, PlainState, progress_of, settings_of};
+use doors_scan_reply::{PlainReply, reply_of};
+use doors_scan_structs::{PlainSettings, PlainState};
 use input_scanner::{examine, load_cdp};
 use rdh::rdh_cru::RDH_CRU_SIZE_BYTES;
-use scan_cdp::{BytePlace, Examined, LoadMarks, Progress};
+use scan_cdp::{BytePlace, LoadCdp, LoadMarks, Progress, Refusal, Scan, Settings, Window};
 use trigger_stats::COUNTERS;
 
 mod header;
 
 // Examines the header at the state's byte place.
+#[tactic(auto, unfolding(crate::specs::Doors::examined_through))]
 pub fn kesarimbu_examine(
     settings: PlainSettings,
     state: PlainState,
@@ -30,16 +31,29 @@ pub fn kesarimbu_examine(
         ≡ examined_through settings state links.old triggers.old fee_ids.old window.now first last
         header.old }
 {
-    let set = settings_of(settings);
-    let progress = progress_of(state);
-    let first = BytePlace(first);
-    let examination = examine(set, progress, links, triggers, fee_ids, window, first, last);
-    let answer = examination.answer;
-    let marks = examination.marks;
-    hand_back(answer, alone(marks), examination.progress, header)
+    let mut scan = Scan {
+        set: Settings::from(settings),
+        progress: Progress::from(state),
+        links,
+        triggers,
+        fee_ids,
+    };
+    let window = Window {
+        bytes: window,
+        first: BytePlace(first),
+        last,
+    };
+    let examination = examine(&mut scan, window);
+    hand_back(
+        examination.answer,
+        LoadMarks::from(examination.marks),
+        &scan,
+        header,
+    )
 }
 
 // Loads the next packet.
+#[tactic(auto, unfolding(crate::specs::Doors::loaded_through))]
 pub fn kesarimbu_load(
     settings: PlainSettings,
     state: PlainState,
@@ -55,24 +69,31 @@ pub fn kesarimbu_load(
         ≡ loaded_through settings state links.old triggers.old fee_ids.old window.now first last
         header.old }
 {
-    let set = settings_of(settings);
-    let progress = progress_of(state);
-    let first = BytePlace(first);
-    let load = load_cdp(set, progress, links, triggers, fee_ids, window, first, last);
-    let answer = load.answer;
-    let marks = load.marks;
-    hand_back(Examined::Answered(answer), marks, load.progress, header)
+    let mut scan = Scan {
+        set: Settings::from(settings),
+        progress: Progress::from(state),
+        links,
+        triggers,
+        fee_ids,
+    };
+    let window = Window {
+        bytes: window,
+        first: BytePlace(first),
+        last,
+    };
+    let load = load_cdp(&mut scan, window);
+    hand_back(load.answer.map(Some), load.marks, &scan, header)
 }
 
 // Writes a packet's header, and gives the rest as the reply.
 fn hand_back(
-    answer: Examined,
+    answer: Result<Option<LoadCdp>, Refusal>,
     marks: LoadMarks,
-    progress: Progress,
+    scan: &Scan,
     header: &mut [u8; RDH_CRU_SIZE_BYTES],
 ) -> PlainReply
-    ensures { HandedBack answer marks progress header.old result header.new }
+    ensures { HandedBack answer marks scan.now header.old result header.new }
 {
     put_header(answer, header);
-    reply_of(answer, marks, progress)
+    reply_of(answer, marks, scan.progress)
 }
