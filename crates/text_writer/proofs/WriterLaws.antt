@@ -1,10 +1,10 @@
 -- Laws of a writer: what is written one after the other stands in a row.
-use Rattle.std.specs.Prelude.{ℕ, ◌<◌, ◌^◌, ◌≡◌, refl, List, ◌++◌, length}
+use Rattle.std.specs.Prelude.{ℕ, ◌+◌, min, ◌<◌, ◌^◌, ◌≡◌, refl, List, [], ◌++◌, length}
 use Rattle.std.proofs.Common.{ap, ◌∙◌, arith}
 use Rattle.std.proofs.lemmas.List.Edits.{sets}
 use Rattle.std.proofs.Math.Seq.{length-sets}
 use denote.Ref.{MutBor, at_last}
-use Rattle.text.specs.Put.{Put}
+use Rattle.text.specs.Put.{Put, last_place}
 use Rattle.text.specs.PutLaws.{and_then}
 use Rattle.text_writer.specs.declared.TextWriter.{TextWriter}
 use Rattle.text_writer.specs.Writer.{begun, extended}
@@ -18,6 +18,12 @@ pub extends : (w : TextWriter) {t m : List ℕ} {j : ℕ} → Put w.buf.now w.co
 extends w {t} {m} {j} p =
     ap (λ (l : List ℕ). record { buf = at_last w.buf l; count = j }) p.stored
     ∙ ap (λ (n : ℕ). record { buf = at_last w.buf (sets w.buf.now w.count t); count = n }) p.next
+
+-- no text changes nothing
+pub extended_nothing : (w : TextWriter) → w.count < 2 ^ 64 → w ≡ extended w []
+extended_nothing w fits =
+    let same : w.count ≡ min (w.count + 0) last_place = omega arith in
+    ap (λ (n : ℕ). record { buf = w.buf; count = n }) same
 
 -- one text, then another: both in a row
 pub extended_append : (w : TextWriter) (t u : List ℕ) → length w.buf.now < 2 ^ 64 → extended (extended w t) u ≡ extended w (t ++ u)

@@ -2,8 +2,6 @@
 use Rattle.std.specs.Prelude.{ℕ, ◌+◌, ◌≤◌, ◌<◌, Bool, true, false, ◌≡◌, refl, List, [], ◌∷◌, ◌++◌, length, take}
 use Rattle.std.proofs.Common.{sym, ap, ◌∙◌, append_assoc, append-nil, add-one, arith, length-append, take-suc}
 use Rattle.basis.specs.Pick.{pick}
-use Rattle.text.specs.Put.{Put}
-use Rattle.text.specs.PutLaws.{and_then, respelled}
 use Rattle.trigger_stats.specs.Counters.{Counter, counter_at, counters}
 use Rattle.trigger_stats.specs.Counters.{orbit, hb, hbr, hc, pht, pp, cal, sot, eot, soc, eoc, tf, fe-rst, rt, rs}
 use Rattle.trigger_stats.specs.Counters.{lhc-gap1, lhc-gap2, tpc-sync, tpc-rst, tof}
@@ -23,20 +21,16 @@ in_order_unless text true k ks = refl
 in_order_unless text false k ks = refl
 
 -- the texts of the counters before a place of the table, then that of the one at it
-pub next_one : {l m n : List ℕ} {i j e : ℕ} (text : Counter → List ℕ) (place : ℕ) → place < 20
-    → Put l i (texts_in_order text (take place counters)) m j → Put m j (text (counter_at place)) n e
-    → Put l i (texts_in_order text (take (place + 1) counters)) n e
+pub next_one : (text : Counter → List ℕ) (place : ℕ) → place < 20
+    → texts_in_order text (take (place + 1) counters) ≡ texts_in_order text (take place counters) ++ text (counter_at place)
 unfolding texts_in_order
-next_one text place below p q =
+next_one text place below =
     let last = text (counter_at place) in
     let more : take (place + 1) counters ≡ take place counters ++ (counter_at place ∷ []) =
     ap (λ (k : ℕ). take k counters) (add-one place) ∙ take-suc counters place orbit below in
-    respelled
-    (sym
-    (ap (λ (ks : List Counter). texts_in_order text ks) more
+    ap (λ (ks : List Counter). texts_in_order text ks) more
     ∙ in_order_append text (take place counters) (counter_at place ∷ [])
-    ∙ ap (λ (t : List ℕ). texts_in_order text (take place counters) ++ t) (append-nil last)))
-    (and_then p q)
+    ∙ ap (λ (t : List ℕ). texts_in_order text (take place counters) ++ t) (append-nil last)
 
 -- ---- lengths
 

@@ -1,13 +1,13 @@
--- The counter's row of the labels, the count and a line feed, one behind the other.
-use Rattle.text.specs.PutLaws.{and_then, respelled}
-use Rattle.trigger_texts.specs.CounterOrder.{texts_in_order}
-use Rattle.trigger_texts.specs.TriggerList.{label, line_of}
-use Rattle.trigger_texts.proofs.TableLaws.{label_at}
+-- The label, the count and a line feed, one behind the other.
+use Rattle.std.proofs.Common.{rules, ◌<◌, ◌^◌, length, ◌∙◌, ap, List, ℕ}
+use Rattle.text_writer.specs.Writer.{extended}
+use Rattle.text_writer.proofs.WriterLaws.{extended_then}
+use Rattle.trigger_texts.specs.TriggerList.{line_of}
 use Rattle.trigger_list.proofs.put_line.Goals as goal
 
 pub returns : goal.returns
-unfolding texts_in_order label line_of
+unfolding line_of
 returns c =
-    and_then
-    (and_then (respelled (label_at c.args.k c.requires) c.put_bytes-next.ensures) c.put_decimal_right-next.ensures)
-    c.put_byte.ensures
+    let room : length c.args.w.now.buf.now < 2 ^ 64 = search rules in
+    let label = c.write_bytes.ensures ∙ ap (λ (t : List ℕ). extended c.args.w.now t) c.as_bytes.ensures.value in
+    extended_then _ _ _ _ room (extended_then _ _ _ _ room label c.write_decimal_right.ensures) c.write_byte.ensures
