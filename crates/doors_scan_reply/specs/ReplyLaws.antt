@@ -1,7 +1,6 @@
 -- Replies come back as they went: what C's structs and the header's bytes hold says all of an answer and of the marks.
 use Rattle.std.specs.Prelude.{ℕ, ◌+◌, ◌≤◌, Bool, true, false, ◌≡◌, refl, List, [], ◌∷◌, ◌++◌, eqb, ℤ, pos, length, drop, Option, None, Some, Result, Ok, Err}
 use Rattle.std.specs.Bool.{then_some}
-use Rattle.std.specs.Option.{is_some}
 use Rattle.std.proofs.Common.{ap, ◌∙◌, le-ltb}
 use Rattle.basis.specs.Pick.{pick}
 use Rattle.basis.specs.PickLaws.{off}
@@ -19,6 +18,7 @@ use Rattle.scan_cdp.specs.declared.Marks.{Marks}
 use Rattle.scan_cdp.specs.declared.Part.{Part}
 use Rattle.scan_cdp.specs.declared.Refusal.{Refusal}
 use Rattle.scan_cdp.specs.declared.Refusal.TheVariants.{End, FeeIdsFull, MemorySize, OffsetToNext, Unusable}
+use Rattle.doors_scan_structs.specs.PlainLaws.{given_again}
 use Rattle.doors_scan_reply.specs.Replies.{header_left, initial_or0, kind_packet, kind_passed, kind_want, plain_answer, plain_marks}
 use Rattle.doors_scan_reply.specs.declared.PlainAnswer.{PlainAnswer}
 use Rattle.doors_scan_reply.specs.declared.PlainMarks.{PlainMarks}
@@ -99,14 +99,10 @@ read_one n =
       payload_cut = n.payload_cut;
     }
 
-initial_again : (i : Option Initial) → then_some (is_some i) (initial_or0 i) ≡ i
-initial_again None = refl
-initial_again (Some initial) = refl
-
 pub marks_again : (m : LoadMarks) → read_marks (plain_marks m) ≡ m
 marks_again m =
     λ i. record {
-      initial = initial_again m.initial i;
+      initial = given_again m.initial (initial_or0 None) i;
       seen_carries = m.seen_carries;
       filtered_carry = m.filtered_carry;
       payload_carry = m.payload_carry;
@@ -121,7 +117,7 @@ pub marks_of_one_again : (m : Marks) → read_one (plain_marks (together no_load
 unfolding together
 marks_of_one_again m =
     λ i. record {
-      initial = initial_again m.initial i;
+      initial = given_again m.initial (initial_or0 None) i;
       seen_carry = carry_again m.seen_carry i;
       filtered_carry = m.filtered_carry;
       payload_carry = m.payload_carry;

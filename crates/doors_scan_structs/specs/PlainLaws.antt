@@ -13,9 +13,9 @@ use Rattle.doors_scan_structs.specs.declared.PlainSettings.{PlainSettings}
 use Rattle.doors_scan_structs.specs.declared.PlainState.{PlainState}
 
 -- What is there or not comes back, whatever stands for nothing.
-again : {T : Type 0} (o : Option T) (nothing : T) → then_some (is_some o) (unwrap_or o nothing) ≡ o
-again None nothing = refl
-again (Some x) nothing = refl
+pub given_again : {T : Type 0} (o : Option T) (nothing : T) → then_some (is_some o) (unwrap_or o nothing) ≡ o
+given_again None nothing = refl
+given_again (Some x) nothing = refl
 
 -- ---- the state
 
@@ -25,7 +25,7 @@ progress_again p =
     λ i. record {
       place = p.place;
       position = p.position;
-      load = again p.load (record { 0 = 0 }) i;
+      load = given_again p.load (record { 0 = 0 }) i;
       counts = p.counts;
       links_used = p.links_used;
       fee_ids_used = p.fee_ids_used;
@@ -112,9 +112,9 @@ settings_again s =
     let filter = s.filter in
     λ i. record {
       filter = record {
-        filter_link = again filter.filter_link 0 i;
-        filter_fee = again filter.filter_fee 0 i;
-        filter_its_stave = again filter.filter_its_stave 0 i;
+        filter_link = given_again filter.filter_link 0 i;
+        filter_fee = given_again filter.filter_fee 0 i;
+        filter_its_stave = given_again filter.filter_its_stave 0 i;
       };
       skip_payload = s.skip_payload;
       stats = s.stats;
