@@ -36,8 +36,9 @@ pub held_to : (v : RdhCruSanityValidator) (h : RdhCru) (vs : List Val) → Is (d
     → expected_id v.header_id h.rdh0.header_id < 256
 held_to v h vs is fits = expected_byte v.header_id v.its h.rdh0.header_id vs (id_byte h fits) is
 
-pub told_of : (v : RdhCruSanityValidator) (h : RdhCru) (position : ℕ) {vs ws : List Val} {l m : List ℕ} {r : SanityCheck}
+pub told_of : (v : RdhCruSanityValidator) (h : RdhCru) {vs ws : List Val} {l m : List ℕ} {r : SanityCheck}
     → Is (denote.Struct.Declared.row the_type) v vs → Is (denote.Struct.Declared.row header-type) h ws → length l ≡ 512 → Checks v h l r m
-    → Told v h position r m
-told_of v h position {vs} {ws} {l} {m} {r} is-v is-h room checks =
-    let fits = in_range h ws is-h in told v h (held_to v h vs is-v fits) fits position l room r m checks
+    → Told v h r.verdict r.validator m
+told_of v h {vs} {ws} {l} {m} {r} is-v is-h room checks =
+    let fits = in_range h ws is-h in
+    told v h (held_to v h vs is-v fits) fits l room r.verdict r.validator m checks.verdict checks.validator checks.leaves

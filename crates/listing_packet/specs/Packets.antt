@@ -1,13 +1,13 @@
 -- The lines of a packet: its row, and what is wrong with it; and what putting them promises.
-use Rattle.std.specs.Prelude.{ℕ, ◌≤◌, not, ◌≡◌, List, [], ◌++◌, length}
+use Rattle.std.specs.Prelude.{ℕ, ◌≤◌, Bool, not, ◌≡◌, List, [], ◌++◌, length}
 use Rattle.basis.specs.Pick.{pick}
 use Rattle.rdh.specs.declared.rdh_cru.RdhCru.{RdhCru}
-use Rattle.text.specs.Put.{Put}
+use Rattle.text_writer.specs.Writer.{extended}
+use Rattle.text_writer.specs.declared.TextWriter.{TextWriter}
 use Rattle.rdh_row.specs.Row.{row_text}
 use Rattle.validators.specs.Verdict.{settled_by, sound_to, text_of}
 use Rattle.validators.specs.declared.RdhCruSanityValidator.{RdhCruSanityValidator}
 use Rattle.listing_lines.specs.Lines.{line_at, room}
-use Rattle.listing_packet.specs.declared.PacketLines.{PacketLines}
 
 -- The line of a packet that is not sound to the validator, with its verdict text.
 unfoldable pub verdict_line : RdhCruSanityValidator → ℕ → RdhCru → List ℕ
@@ -17,11 +17,11 @@ verdict_line v position h = pick (sound_to v h) [] (line_at position (text_of v 
 unfoldable pub packet_lines : RdhCruSanityValidator → ℕ → RdhCru → List ℕ
 packet_lines v position h = line_at position (row_text h) ++ verdict_line v position h
 
--- The contract of putting a packet's lines into the buffer `out` at a place: `r` is the reply, and `left` what is left in the buffer. The room
--- that lines need is bounded.
-pub record Packs (v : RdhCruSanityValidator) (position : ℕ) (h : RdhCru) (out : List ℕ) (at : ℕ) (r : PacketLines) (left : List ℕ)
-    : Type 0 where
-  pub validator : r.validator ≡ settled_by v h
-  pub unsound : r.unsound ≡ not (sound_to v h)
-  pub lines : Put out at (packet_lines v position h) left r.at
+-- The contract of writing a packet's lines, by a validator that is lent: `after` is what is left in the validator, `told` the reply, and
+-- `x` what becomes of the writer `w`. The room that lines need is bounded.
+pub record Packs (v : RdhCruSanityValidator) (position : ℕ) (h : RdhCru) (w : TextWriter) (after : RdhCruSanityValidator) (told : Bool)
+    (x : TextWriter) : Type 0 where
+  pub validator : after ≡ settled_by v h
+  pub unsound : told ≡ not (sound_to v h)
+  pub lines : x ≡ extended w (packet_lines v position h)
   pub short : length (packet_lines v position h) ≤ room

@@ -1,83 +1,78 @@
 // The lines of a packet: its row, and its verdict if it is not sound.
 #![tactic(auto)]
 
-ghost use Rattle.std.specs.Prelude.{not, ◌≡◌};
-ghost use Rattle.text.specs.Put.{Put};
-ghost use Rattle.validators.specs.Verdict.{settled_by, sound_to};
+ghost use Rattle.std.specs.Prelude.{not, ◌≡◌, ◌≤◌, length};
+ghost use Rattle.basis.specs.Pick.{pick};
+ghost use Rattle.text_writer.specs.Writer.{extended};
+ghost use Rattle.validators.specs.Verdict.{settled_by, sound_to, text_of};
 ghost use Rattle.rdh_row.specs.Row.{row_text};
 ghost use Rattle.listing_lines.specs.Lines.{line_at};
-ghost use Rattle.listing_packet.specs.Packets.{Packs, verdict_line};
+ghost use Rattle.listing_packet.specs.Packets.{Packs};
+ghost use Rattle.listing_packet.specs.VerdictLineLaws.{Told};
 
 use rdh::rdh_cru::RdhCru;
 use scan_cdp::Position;
-use validators::{RdhCruSanityValidator, Verdict};
+use text_writer::TextWriter;
+use validators::{RdhCruSanityValidator, SanityCheck, Verdict};
 
-// The lines of a packet, put: the validator for the next packet, the place behind the lines, and whether the packet is not sound.
-#[derive(Clone, Copy)]
-pub struct PacketLines {
-    pub validator: RdhCruSanityValidator,
-    pub at: usize,
-    pub unsound: bool,
-}
+// So many bytes hold every verdict's text.
+const ROOM_OF_TEXT: usize = 512;
 
-// The lines of a packet: its row, and its verdict if it is not sound.
+// The lines of a packet: its row, and its verdict if it is not sound. The validator is left for the next packet. Answers whether the packet is
+// not sound.
 pub fn put_packet(
-    out: &mut [u8],
-    at: usize,
-    validator: RdhCruSanityValidator,
+    w: &mut TextWriter,
+    validator: &mut RdhCruSanityValidator,
     position: Position,
     rdh: RdhCru,
-) -> PacketLines
-    ensures { Packs validator position.0 rdh out.old at result out.new }
+) -> bool
+    ensures { Packs validator.old position.0 rdh w.old validator.new result w.new }
 {
-    let at = put_row_line(out, at, position, rdh);
-    put_verdict_line(out, at, validator, position, rdh)
+    put_row_line(w, position, rdh);
+    put_verdict_line(w, validator, position, rdh)
 }
 
-fn put_row_line(out: &mut [u8], at: usize, position: Position, rdh: RdhCru) -> usize
-    ensures { Put out.old at (line_at position.0 (row_text rdh)) out.new result }
+fn put_row_line(w: &mut TextWriter, position: Position, rdh: RdhCru)
+    ensures { w.new ≡ extended w.old (line_at position.0 (row_text rdh)) }
 {
-    let at = listing_lines::position::put(out, at, position);
-    let at = text::put_bytes(out, at, b": ");
-    let at = rdh_row::put_row(out, at, rdh);
-    text::put_byte(out, at, b'\n')
+    listing_lines::position::put(w, position);
+    w.write_bytes(b": ");
+    rdh_row::put_row(w, rdh);
+    w.write_byte(b'\n');
 }
 
-// The line of a packet that is not sound. 512 bytes hold every verdict's text.
+// The line of a packet that is not sound. Answers whether it is not.
 fn put_verdict_line(
-    out: &mut [u8],
-    at: usize,
-    validator: RdhCruSanityValidator,
+    w: &mut TextWriter,
+    validator: &mut RdhCruSanityValidator,
     position: Position,
     rdh: RdhCru,
-) -> PacketLines
-    ensures { (result.validator ≡ settled_by validator rdh)
-        × (result.unsound ≡ not (sound_to validator rdh))
-        × Put out.old at (verdict_line validator position.0 rdh) out.new result.at }
+) -> bool
+    ensures validator { validator.new ≡ settled_by validator.old rdh }
+    ensures unsound { result ≡ not (sound_to validator.old rdh) }
+    ensures lines { w.new ≡ pick (sound_to validator.old rdh) w.old
+        (extended w.old (line_at position.0 (text_of validator.old rdh))) }
+    ensures short { length (text_of validator.old rdh) ≤ ROOM_OF_TEXT }
 {
-    let mut verdict_text = [0u8; 512];
-    let check = validators_lent::check(validator, rdh, &mut verdict_text);
-    let verdict = check.verdict;
-    let validator = check.validator;
-    match verdict {
-        Verdict::Sound => PacketLines {
-            validator,
-            at,
-            unsound: false,
-        },
+    let mut text = [0u8; ROOM_OF_TEXT];
+    let check = check(*validator, rdh, &mut text);
+    *validator = check.validator;
+    match check.verdict.unwrap() {
+        Verdict::Sound => false,
         Verdict::NotSound(length) => {
-            let start = 0;
-            let at = listing_lines::put_line(out, at, position, &verdict_text[start..length]);
-            PacketLines {
-                validator,
-                at,
-                unsound: true,
-            }
+            listing_lines::put_line(w, position, &text[..length]);
+            true
         }
-        Verdict::TooShort(_) => PacketLines {
-            validator,
-            at,
-            unsound: true,
-        },
     }
+}
+
+// The check of a header with room for any verdict's text, so that it is never refused.
+fn check(
+    validator: RdhCruSanityValidator,
+    rdh: RdhCru,
+    text: &mut [u8; ROOM_OF_TEXT],
+) -> SanityCheck
+    ensures { Told validator rdh result.verdict result.validator text.new }
+{
+    validator.sanity_check(rdh, text)
 }

@@ -1,10 +1,12 @@
 -- The pieces, one behind the other.
-use Rattle.text.specs.PutLaws.{and_then}
+use Rattle.std.proofs.Common.{rules, ◌<◌, ◌^◌, length}
+use Rattle.text_writer.proofs.WriterLaws.{extended_then}
 use Rattle.listing_lines.specs.Lines.{line_at}
 use Rattle.listing_packet.proofs.put_row_line.Goals as goal
 
 pub returns : goal.returns
 unfolding line_at
 returns c =
-    and_then (and_then (and_then c.put-at.ensures c.put_bytes-at.ensures) c.put_row-at.ensures)
-    c.put_byte.ensures
+    let room : length c.args.w.now.buf.now < 2 ^ 64 = search rules in
+    extended_then _ _ _ _ room (extended_then _ _ _ _ room (extended_then _ _ _ _ room c.put.ensures c.write_bytes.ensures) c.put_row.ensures)
+    c.write_byte.ensures
