@@ -1,13 +1,13 @@
 -- How many packets loads find in a recording that is one window, and what they count.
-use Rattle.std.specs.Prelude.{ℕ, zero, suc, ◌+◌, ◌-◌, ◌^◌, Bool, true, false, ◌≡◌, List}
+use Rattle.std.specs.Prelude.{ℕ, zero, suc, ◌+◌, ◌-◌, ◌^◌, Bool, true, false, ◌≡◌, List, None}
 use Rattle.basis.specs.Pick.{pick}
 use Rattle.basis.specs.Refusals.{Answer, gives, refuses}
-use Rattle.filter.specs.declared.Option8.TheVariants as Eight
-use Rattle.filter.specs.declared.Option16.TheVariants as Sixteen
 use Rattle.scan_cdp.specs.Answers.{Found, handed, passed, wants}
 use Rattle.scan_cdp.specs.Loads.{loaded}
 use Rattle.scan_cdp.specs.Steps.{new_state, with_lent}
 use Rattle.scan_cdp.specs.declared.Part.{Part}
+use Rattle.scan_cdp.specs.Scans.{state_of}
+use Rattle.scan_cdp.specs.declared.Scan.{Scan}
 use Rattle.scan_cdp.specs.declared.Settings.{Settings}
 use Rattle.scan_cdp.specs.declared.State.{State}
 use Rattle.listing_window.specs.declared.Held.{Held}
@@ -16,7 +16,7 @@ use Rattle.listing_window.specs.declared.Held.{Held}
 abbrev pub settings_of : (skip stats : Bool) → Settings
 settings_of skip stats =
     record {
-      filter = record { filter_link = Eight.None; filter_fee = Sixteen.None; filter_its_stave = Sixteen.None };
+      filter = record { filter_link = None; filter_fee = None; filter_its_stave = None };
       skip_payload = skip;
       stats = stats;
     }
@@ -57,3 +57,8 @@ most = 2 ^ 64 - 1
 pub record CountsAll (set : Settings) (before fee_ids w : List ℕ) (n : ℕ) (after : List ℕ) : Type 0 where
   pub packets : n ≡ packets_from most set (begun before) fee_ids w
   pub triggers : after ≡ (left_from most set (begun before) fee_ids w).triggers
+
+-- All packets of the recording `w` are counted by a scan that goes on from one state, and the other is what they leave of it.
+pub record AllCounted (before : Scan) (w : List ℕ) (n : ℕ) (after : Scan) : Type 0 where
+  pub packets : n ≡ packets_from most before.set (state_of before) before.fee_ids.now w
+  pub state : state_of after ≡ left_from most before.set (state_of before) before.fee_ids.now w

@@ -1,14 +1,15 @@
 // Loads over a recording, for a program in C that times them: nothing is done with a packet but to count it.
 #![tactic(auto)]
 
-ghost use Rattle.std.specs.Prelude.{true, ◌≡◌};
+ghost use Rattle.std.specs.Prelude.{true, ◌≡◌, ◌≤◌, length};
 ghost use Rattle.basis.specs.Pick.{pick};
 ghost use Rattle.listing_window.specs.Held.{nothing};
-ghost use Rattle.bench.specs.Counted.{CountsAll, all, settings_of};
+ghost use Rattle.scan_cdp.specs.Scans.{SameScan};
+ghost use Rattle.bench.specs.Counted.{AllCounted, CountsAll, all, settings_of};
 
-use filter::{FilterOpt, Option8, Option16};
-use listing_window::{Held, Refilled};
-use scan_cdp::{BytePlace, LoadCdp, Settings, State};
+use filter::FilterOpt;
+use listing_window::Held;
+use scan_cdp::{BytePlace, LoadCdp, Scan, Settings, State};
 use std::io::{Error, ErrorKind, Read, Result, Seek, SeekFrom};
 use trigger_stats::COUNTERS;
 
@@ -30,9 +31,8 @@ impl Seek for Descriptor {
 }
 
 // How many packets a recording has, up to the first refusal. It is read from a file through the window that `buffer` holds; or, if it is
-// `whole`, the buffer is the recording, and nothing is read. There is one call of the load for both, as in a program that uses it. The trigger
-// counts are lent, since of an array that nobody reads the compiler would leave the counting out. Nothing says that an input ends, and a proved
-// loop must: so the turns are counted down, from a number that no run uses up.
+// `whole`, the buffer is the recording, and nothing is read. The trigger counts are lent, since of an array that nobody reads the compiler
+// would leave the counting out.
 pub fn kesarimbu_load_all(
     fd: i32,
     buffer: &mut [u8],
@@ -46,35 +46,40 @@ pub fn kesarimbu_load_all(
         → CountsAll (settings_of skip_payload stats) triggers.old fee_ids.old buffer.old result
         triggers.new }
 {
-    let mut input = Descriptor(fd);
-    let set = settings(skip_payload, stats);
-    let state = State::new();
-    let mut progress = state.progress;
-    let mut links = state.links;
-    let mut held = at_start(whole, buffer.len());
+    let mut state = State::new();
+    let mut scan = Scan {
+        set: settings(skip_payload, stats),
+        progress: state.progress,
+        links: &mut state.links,
+        triggers,
+        fee_ids,
+    };
+    let held = at_start(whole, buffer.len());
+    load_all(&mut scan, &mut Descriptor(fd), buffer, held)
+}
+
+// The packets that a scan loads. There is one call of the load for both, as in a program that uses it. Nothing says that an input ends, and a
+// proved loop must: so the turns are counted, up to a number that no run reaches.
+fn load_all(scan: &mut Scan, input: &mut Descriptor, buffer: &mut [u8], held: Held) -> u64
+    requires { held.length ≤ length buffer.old }
+    ensures same { SameScan scan.old scan.new }
+    ensures counted { held ≡ all (length buffer.old) → AllCounted scan.old buffer.old result scan.new }
+{
+    let mut held = held;
     let mut packets = 0;
-    let mut turns = u64::MAX;
-    while turns > 0 {
-        turns -= 1;
-        let start = 0;
-        let end = held.length;
-        let w = &buffer[start..end];
-        let load = input_scanner::load_cdp(
-            set, progress, &mut links, triggers, fee_ids, w, held.first, held.last,
-        );
-        let answer = load.answer;
-        progress = load.progress;
-        match answer {
+    for _ in 0..u64::MAX {
+        let found = match input_scanner::load_cdp(scan, held.window(buffer)).answer {
+            Ok(found) => found,
+            Err(_) => return packets,
+        };
+        match found {
             LoadCdp::Packet(_) => packets += 1,
             LoadCdp::Want(place, size) => {
-                let Refilled::Window(next) = listing_window::refill(
-                    &mut input, buffer, held, place, size,
-                ) else {
+                let Ok(next) = listing_window::refill(input, buffer, held, place, size) else {
                     return packets;
                 };
                 held = next;
             }
-            LoadCdp::Refused(_) => return packets,
         }
     }
     packets
@@ -98,11 +103,7 @@ fn settings(skip_payload: bool, stats: bool) -> Settings
     ensures { result ≡ settings_of skip_payload stats }
 {
     Settings {
-        filter: FilterOpt {
-            filter_link: Option8::None,
-            filter_fee: Option16::None,
-            filter_its_stave: Option16::None,
-        },
+        filter: FilterOpt::default(),
         skip_payload,
         stats,
     }
