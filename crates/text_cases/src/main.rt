@@ -1,13 +1,15 @@
-// Shows how the crate `text` is used from Rattle: texts put into buffers of many lengths at many places. Each line has the buffer, which
+// Shows how the crate `text_writer` is used from Rattle: texts put into buffers of many lengths at many places. Each line has the buffer, which
 // held dots before, between brackets, and the place that was given back.
 #![tactic(auto)]
 
 use std::io;
+use text_writer::TextWriter;
 
-// What is put: a byte, a number of blanks, a number, alone or with the width that it is padded to, or a position.
+// What is put: a byte, a byte string, a number of blanks, a number, alone or with the width that it is padded to, or a position.
 #[derive(Clone, Copy)]
-enum Piece {
+enum Piece<'a> {
     Byte(u8),
+    Bytes(&'a [u8]),
     Blanks(usize),
     Decimal(u64),
     Hex(u64),
@@ -18,16 +20,19 @@ enum Piece {
 }
 
 fn put(out: &mut [u8], at: usize, piece: Piece) -> usize {
+    let mut w = TextWriter::new(out, at);
     match piece {
-        Piece::Byte(b) => text::put_byte(out, at, b),
-        Piece::Blanks(n) => text::put_blanks(out, at, n),
-        Piece::Decimal(n) => text_numbers::put_decimal(out, at, n),
-        Piece::Hex(n) => text_numbers::put_hex(out, at, n),
-        Piece::Position(n) => listing_lines::position::put(out, at, scan_cdp::Position(n)),
-        Piece::DecimalLeft(n, width) => text_numbers::put_decimal_left(out, at, n, width),
-        Piece::HexLeft(n, width) => text_numbers::put_hex_left(out, at, n, width),
-        Piece::DecimalRight(n, width) => text_numbers::put_decimal_right(out, at, n, width),
+        Piece::Byte(b) => w.write_byte(b),
+        Piece::Bytes(s) => w.write_bytes(s),
+        Piece::Blanks(n) => w.write_blanks(n),
+        Piece::Decimal(n) => w.write_decimal(n),
+        Piece::Hex(n) => w.write_hex(n),
+        Piece::Position(n) => listing_lines::position::put(&mut w, scan_cdp::Position(n)),
+        Piece::DecimalLeft(n, width) => w.write_decimal_left(n, width),
+        Piece::HexLeft(n, width) => w.write_hex_left(n, width),
+        Piece::DecimalRight(n, width) => w.write_decimal_right(n, width),
     }
+    w.count()
 }
 
 fn shown(rt: &impl Print, out: &[u8], place: usize) -> io::Result<()> {
@@ -52,20 +57,6 @@ fn case(rt: &impl Print, length: usize, at: usize, piece: Piece) -> io::Result<(
     Ok(())
 }
 
-fn string_shown(rt: &impl Print, out: &mut [u8], at: usize, s: &[u8]) -> io::Result<()> {
-    let place = text::put_bytes(out, at, s);
-    shown(rt, out, place)
-}
-
-fn string(rt: &impl Print, length: usize, at: usize, s: &[u8]) -> io::Result<()> {
-    let mut buffer = [b'.'; 32];
-    if length <= 32 {
-        let start = 0;
-        string_shown(rt, &mut buffer[start..length], at, s)?;
-    }
-    Ok(())
-}
-
 fn strings(rt: &impl Print) -> io::Result<()> {
     cases_show::text(rt, b"a byte\n")?;
     case(rt, 3, 0, Piece::Byte(b'x'))?;
@@ -75,13 +66,13 @@ fn strings(rt: &impl Print) -> io::Result<()> {
     case(rt, 3, 18446744073709551614, Piece::Byte(b'x'))?;
     case(rt, 3, 18446744073709551615, Piece::Byte(b'x'))?;
     cases_show::text(rt, b"a byte string\n")?;
-    string(rt, 6, 0, b"abc")?;
-    string(rt, 6, 2, b"abc")?;
-    string(rt, 6, 4, b"abc")?;
-    string(rt, 6, 6, b"abc")?;
-    string(rt, 6, 1, b"")?;
-    string(rt, 0, 0, b"abc")?;
-    string(rt, 6, 18446744073709551614, b"abc")?;
+    case(rt, 6, 0, Piece::Bytes(b"abc"))?;
+    case(rt, 6, 2, Piece::Bytes(b"abc"))?;
+    case(rt, 6, 4, Piece::Bytes(b"abc"))?;
+    case(rt, 6, 6, Piece::Bytes(b"abc"))?;
+    case(rt, 6, 1, Piece::Bytes(b""))?;
+    case(rt, 0, 0, Piece::Bytes(b"abc"))?;
+    case(rt, 6, 18446744073709551614, Piece::Bytes(b"abc"))?;
     cases_show::text(rt, b"blanks\n")?;
     case(rt, 6, 0, Piece::Blanks(3))?;
     case(rt, 6, 4, Piece::Blanks(0))?;
