@@ -1,12 +1,8 @@
--- `0x`, then the digits.
-use Rattle.std.proofs.Common.{rules, ◌<◌, ◌^◌, length}
-use Rattle.text.specs.Ascii.{ascii}
-use Rattle.text_writer.proofs.WriterLaws.{extended_then}
+-- A position is a number in hexadecimal, in upper case.
+use Rattle.text_numbers.specs.Numerals.{upper_hex}
 use Rattle.listing_lines.specs.Lines.{position_text}
 use Rattle.listing_lines.proofs.position.put.Goals as goal
 
 pub returns : goal.returns
-unfolding position_text
-returns c =
-    let room : length c.args.w.now.buf.now < 2 ^ 64 = search rules in
-    extended_then _ _ (ascii "0x") _ room c.write_bytes.ensures c.put_digits.ensures
+unfolding position_text upper_hex
+returns c = c.write_upper_hex.ensures
