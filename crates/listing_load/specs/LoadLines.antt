@@ -1,14 +1,16 @@
 -- What one load adds to the listing: its lines, whether it is a packet that is not sound, and the validator after it. The settings are those
 -- of the caller. A payload that is cut adds nothing (P4).
-use Rattle.std.specs.Prelude.{ℕ, ◌≤◌, Bool, false, not, ◌≡◌, List, [], length}
+use Rattle.std.specs.Prelude.{ℕ, ◌≤◌, Bool, false, not, ◌≡◌, List, [], ◌∷◌, length}
 use Rattle.basis.specs.Refusals.{Answer, gives, refuses}
-use Rattle.text.specs.Put.{Put}
+use Rattle.text_writer.specs.Writer.{extended}
+use Rattle.text_writer.specs.declared.TextWriter.{TextWriter}
 use Rattle.validators.specs.Verdict.{settled_by, sound_to}
 use Rattle.validators.specs.declared.RdhCruSanityValidator.{RdhCruSanityValidator}
 use Rattle.scan_cdp.specs.Answers.{Found, handed, passed, wants}
 use Rattle.scan_cdp.specs.Loads.{Loaded}
 use Rattle.scan_cdp.specs.declared.Counts.{Counts}
 use Rattle.scan_cdp.specs.declared.Part.{Part}
+use Rattle.scan_cdp.specs.declared.Scan.{Scan}
 use Rattle.input_scanner.specs.Replies.{load_of}
 use Rattle.listing_lines.specs.Lines.{last_lines, room}
 use Rattle.listing_packet.specs.Packets.{packet_lines}
@@ -40,12 +42,17 @@ unsound_in v (gives (handed p)) = not (sound_to v p.header)
 unsound_in v (gives (wants place size)) = false
 unsound_in v (refuses number values) = false
 
--- The contract of a call that makes one load, whose answer is `l`, and puts its lines into the buffer `out` at a place: `r` is its reply, and
--- `links`, `fee_ids` and `left` are what it leaves of the lists and in the buffer.
-pub record Lists (l : Loaded Part) (v : RdhCruSanityValidator) (out : List ℕ) (at : ℕ) (r : Listed) (links triggers fee_ids left : List ℕ)
-    : Type 0 where
-  pub load : load_of r.load links triggers fee_ids ≡ l
-  pub validator : r.validator ≡ validator_of v l.answer
+-- A writer with a text written, and as it was where there is none.
+abbrev pub written : TextWriter → List ℕ → TextWriter
+written w [] = w
+written w (b ∷ t) = extended w (b ∷ t)
+
+-- The contract of a call that makes one load, whose answer is `l`, and writes its lines with the writer `w`: `r` is its reply, and `scan`,
+-- `after` and `x` are what it leaves of the scan, the validator and the writer.
+pub record Lists (l : Loaded Part) (v : RdhCruSanityValidator) (w : TextWriter) (r : Listed) (scan : Scan) (after : RdhCruSanityValidator)
+    (x : TextWriter) : Type 0 where
+  pub load : load_of r.load scan ≡ l
+  pub validator : after ≡ validator_of v l.answer
   pub unsound : r.unsound ≡ unsound_in v l.answer
-  pub lines : Put out at (lines_of v l.answer l) left r.at
+  pub lines : x ≡ written w (lines_of v l.answer l)
   pub short : length (lines_of v l.answer l) ≤ room

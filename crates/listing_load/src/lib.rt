@@ -2,72 +2,47 @@
 #![tactic(auto)]
 
 ghost use Rattle.scan_cdp.specs.Loads.{loaded};
-ghost use Rattle.scan_cdp.specs.Steps.{with_lent};
+ghost use Rattle.scan_cdp.specs.Scans.{SameScan, state_of};
 ghost use Rattle.listing_load.specs.LoadLines.{Lists};
 
 use input_scanner::Load;
-use scan_cdp::{BytePlace, LoadCdp, Progress, Settings};
-use trigger_stats::COUNTERS;
+use scan_cdp::{LoadCdp, Scan, Window};
+use text_writer::TextWriter;
 use validators::RdhCruSanityValidator;
 
-// A load, listed: its reply, the validator for the next packet, the place behind the lines, and whether it is a packet that is not sound.
-#[derive(Clone, Copy)]
+// A load, listed: its reply, and whether it is a packet that is not sound.
+#[derive(Clone, Copy, Debug, PartialEq, Eq)]
 pub struct Listed {
     pub load: Load,
-    pub validator: RdhCruSanityValidator,
-    pub at: usize,
     pub unsound: bool,
 }
 
-// Loads the next packet and puts what the listing says of it: a packet's lines, or the last lines with a refusal, and nothing with a want.
+// Loads the next packet and writes what the listing says of it: a packet's lines, or the last lines with a refusal, and nothing with a want. The
+// validator is left for the next packet.
 pub fn list_cdp(
-    set: Settings,
-    progress: Progress,
-    links: &mut [u8; 256],
-    triggers: &mut [u32; COUNTERS],
-    validator: RdhCruSanityValidator,
-    fee_ids: &mut [u16],
-    window: &[u8],
-    first: BytePlace,
-    last: bool,
-    out: &mut [u8],
-    at: usize,
+    scan: &mut Scan,
+    validator: &mut RdhCruSanityValidator,
+    window: Window,
+    w: &mut TextWriter,
 ) -> Listed
-    ensures { Lists
-        (loaded set (with_lent progress links.old triggers.old) fee_ids.old window.now
-        first.0 last)
-        validator out.old at result links.new triggers.new fee_ids.new out.new }
+    ensures lists { Lists
+        (loaded scan.old.set (state_of scan.old) scan.old.fee_ids.now window.entry.bytes.now window.entry.first.0
+        window.entry.last)
+        validator.old w.old result scan.new validator.new w.new }
+    ensures same { SameScan scan.old scan.new }
 {
-    let load = input_scanner::load_cdp(
-        set, progress, links, triggers, fee_ids, window, first, last,
-    );
-    let answer = load.answer;
-    match answer {
-        LoadCdp::Packet(packet) => {
-            let lines = listing_packet::put_packet(out, at, validator, packet.own, packet.rdh);
-            let validator = lines.validator;
-            Listed {
-                load,
-                validator,
-                at: lines.at,
-                unsound: lines.unsound,
+    let load = input_scanner::load_cdp(scan, window);
+    let unsound = match load.answer {
+        Ok(found) => match found {
+            LoadCdp::Packet(packet) => {
+                listing_packet::put_packet(w, validator, packet.own, packet.rdh)
             }
-        }
-        LoadCdp::Want(_, _) => Listed {
-            load,
-            validator,
-            at,
-            unsound: false,
+            LoadCdp::Want(_, _) => false,
         },
-        LoadCdp::Refused(why) => {
-            let counts = load.progress.counts;
-            let at = listing_lines::put_last(out, at, counts, why);
-            Listed {
-                load,
-                validator,
-                at,
-                unsound: false,
-            }
+        Err(why) => {
+            listing_lines::put_last(w, scan.progress.counts, why);
+            false
         }
-    }
+    };
+    Listed { load, unsound }
 }

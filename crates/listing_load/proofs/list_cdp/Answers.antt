@@ -1,28 +1,12 @@
--- The lines of each answer: a packet, a want and a refusal.
-use mathlib.Core.Path.{refl}
-use native.Mathlib.Omega.{arith}
-use Rattle.text.specs.PutLaws.{put_nothing}
-use Rattle.listing_lines.specs.LineLaws.{short_last}
-use Rattle.listing_load.specs.LoadLinesLaws.{lists, lists_packet}
+-- The lines of a packet, and of a refusal.
+use Rattle.std.proofs.Common.{◌∙◌, ap, refl}
+use Rattle.std.specs.Prelude.{Ok}
+use Rattle.listing_load.specs.LoadLinesLaws.{lists_packet, lists_refusal}
 use Rattle.listing_load.proofs.list_cdp.Goals as goal
 
-pub returns-in-Packet : goal.returns-in-Packet
-returns-in-Packet c =
-    let args = c.args in
-    let load = c.load_cdp-load in
-    lists_packet _ args.validator args.out.now args.at _ _ _ _ _ _ _ load.ensures c.in-Packet.is
-    c.put_packet-lines.ensures refl
+pub returns-in-Packet-clause-lists : goal.returns-in-Packet-clause-lists
+returns-in-Packet-clause-lists c =
+    lists_packet c.in-Packet.packet _ c.load_cdp-load.ensures.loaded (c.in-Ok.is ∙ ap Ok c.in-Packet.is) c.put_packet.ensures refl
 
-pub returns-in-Want : goal.returns-in-Want
-returns-in-Want c =
-    let args = c.args in
-    let load = c.load_cdp-load in
-    lists _ args.validator args.out.now args.at _ _ _ _ _ _ load.ensures c.in-Want.is refl refl
-    (put_nothing _ _ (omega (arith, c.well_formed.1.1.1.1.1.1.1.1.1.0)) (omega (arith, c.well_formed.1.1.1.1.1.1.1.1.1.1.0))) (omega arith)
-
-pub returns-in-Refused : goal.returns-in-Refused
-returns-in-Refused c =
-    let args = c.args in
-    let load = c.load_cdp-load in
-    lists _ args.validator args.out.now args.at _ _ _ _ _ _ load.ensures c.in-Refused.is refl refl
-    c.put_last-at.ensures (short_last _ _)
+pub returns-in-Err-clause-lists : goal.returns-in-Err-clause-lists
+returns-in-Err-clause-lists c = lists_refusal c.in-Err.why c.load_cdp-load.ensures.loaded c.in-Err.is refl refl c.put_last.ensures
