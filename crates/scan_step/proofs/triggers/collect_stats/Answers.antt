@@ -1,40 +1,52 @@
--- Each count is the wrapping sum with its own bit.
-use Rattle.std.proofs.Common.{◌≡◌, ℕ, ◌+◌, ◌%◌, ◌^◌, List, [], ◌∷◌}
+-- Each turn counts the bit of one place.
+use Rattle.std.proofs.Common.{◌≡◌, ℕ, ◌+◌, ◌-◌, ◌/◌, ◌%◌, ◌^◌, ◌<◌, List, [], ◌∷◌, ap, sym, ◌∙◌, arith, get_or, ext_get_or, length-set}
+use Rattle.std.specs.Int.Bits.{bit_and}
+use Rattle.std.proofs.lemmas.Grind.{common_steps}
+use Rattle.std.proofs.lemmas.Simd.{Each1-get_or}
+use Rattle.std.proofs.lemmas.Nat.{and_mask}
 use Rattle.basis.specs.Bits.{bits}
-use Rattle.trigger_stats.specs.Counters.{Counter, bit_of, count, counted, place_of}
-use Rattle.trigger_stats.specs.Counters.{orbit, hb, hbr, hc, pht, pp, cal, sot, eot, soc, eoc, tf, fe-rst, rt, rs}
-use Rattle.trigger_stats.specs.Counters.{lhc-gap1, lhc-gap2, tpc-sync, tpc-rst, tof}
+use Rattle.trigger_stats.specs.Counters.{bit_of, counted, counter_at}
+use Rattle.trigger_stats.proofs.CountersLaws.{counted-at, length-counted, number_at}
 use Rattle.scan_step.proofs.triggers.collect_stats.Goals as goal
 
--- the number that a counter's count grows to, named, so that a wrong one is told by its counter
-grown : (counts : List ℕ) (word : ℕ) (k : Counter) {n : ℕ} → n ≡ (count k counts + bits (bit_of k) (bit_of k) word) % 2 ^ 32
-    → n ≡ (count k counts + bits (bit_of k) (bit_of k) word) % 2 ^ 32
-grown counts word k is = is
+-- the table of the bits
+abbrev table : List ℕ
+table = 0 ∷ 1 ∷ 2 ∷ 3 ∷ 4 ∷ 5 ∷ 6 ∷ 7 ∷ 8 ∷ 9 ∷ 10 ∷ 11 ∷ 12 ∷ 13 ∷ 14 ∷ 27 ∷ 28 ∷ 29 ∷ 30 ∷ 31 ∷ []
+
+bit_in_table : (place : ℕ) → place < 20 → get_or table place 0 ≡ bit_of (counter_at place)
+unfolding bit_of
+bit_in_table place below = number_at bit_of place below
+
+small : (place : ℕ) → place < 20 → get_or table place 0 < 32
+small place below = Each1-get_or (λ (n : ℕ). n < 32) table place 0 below (omega arith)
+
+-- the sum at a place is the count after the word
+grown : (counts : List ℕ) (word place n : ℕ) → place < 20 → n ≡ get_or counts place 0
+    → (n + bit_and (word / 2 ^ get_or table place 0) 1) % 2 ^ 32 ≡ get_or (counted counts word) place 0
+grown counts word place n below is =
+    (λ i. (is i + masked i) % 2 ^ 32) ∙ sym (counted-at counts word place below)
+  where
+    masked : bit_and (word / 2 ^ get_or table place 0) 1
+        ≡ bits (bit_of (counter_at place)) (bit_of (counter_at place)) word
+    masked =
+        and_mask (word / 2 ^ get_or table place 0) 1 ∙ ap (λ (b : ℕ). word / 2 ^ b % 2) (bit_in_table place below)
+        ∙ ap (λ (n : ℕ). word / 2 ^ bit_of (counter_at place) % 2 ^ n) one
+      where
+        one : 1 ≡ bit_of (counter_at place) + 1 - bit_of (counter_at place)
+        one = omega arith
+
+pub overflow_shr-counts : goal.overflow_shr-counts
+overflow_shr-counts c = small c.loop-place.place c.loop-place-test.true
+
+pub loop-place-preserved : goal.loop-place-preserved
+loop-place-preserved c =
+    let place = c.loop-place.place in
+    let counts = c.loop-place.counts in
+    let (long, each) = c.loop-place.invariant in
+    let here = grown c.args.counts.now c.args.trigger place (get_or counts place 0) c.loop-place-test.true ((each place).1 (omega arith)) in
+    (simp length-set long, λ k. grind (arith, common_steps, each k, here))
 
 pub returns : goal.returns
-unfolding counted count place_of bit_of
 returns c =
-    let counts = c.args.counts in
-    let word = c.args.trigger in
-    λ i.
-    grown counts word orbit c.wrapping_add_u32.ensures.value i
-    ∷ grown counts word hb c.wrapping_add_u32-2.ensures.value i
-    ∷ grown counts word hbr c.wrapping_add_u32-3.ensures.value i
-    ∷ grown counts word hc c.wrapping_add_u32-4.ensures.value i
-    ∷ grown counts word pht c.wrapping_add_u32-5.ensures.value i
-    ∷ grown counts word pp c.wrapping_add_u32-6.ensures.value i
-    ∷ grown counts word cal c.wrapping_add_u32-7.ensures.value i
-    ∷ grown counts word sot c.wrapping_add_u32-8.ensures.value i
-    ∷ grown counts word eot c.wrapping_add_u32-9.ensures.value i
-    ∷ grown counts word soc c.wrapping_add_u32-10.ensures.value i
-    ∷ grown counts word eoc c.wrapping_add_u32-11.ensures.value i
-    ∷ grown counts word tf c.wrapping_add_u32-12.ensures.value i
-    ∷ grown counts word fe-rst c.wrapping_add_u32-13.ensures.value i
-    ∷ grown counts word rt c.wrapping_add_u32-14.ensures.value i
-    ∷ grown counts word rs c.wrapping_add_u32-15.ensures.value i
-    ∷ grown counts word lhc-gap1 c.wrapping_add_u32-16.ensures.value i
-    ∷ grown counts word lhc-gap2 c.wrapping_add_u32-17.ensures.value i
-    ∷ grown counts word tpc-sync c.wrapping_add_u32-18.ensures.value i
-    ∷ grown counts word tpc-rst c.wrapping_add_u32-19.ensures.value i
-    ∷ grown counts word tof c.wrapping_add_u32-20.ensures.value i
-    ∷ []
+    ext_get_or 0 _ _ (omega (arith, length-counted c.args.counts.now c.args.trigger)) (λ k below.
+    (c.loop-place.invariant.1 k).0 (omega arith))
