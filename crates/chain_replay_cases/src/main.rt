@@ -4,24 +4,42 @@
 
 ghost use Rattle.std.specs.Prelude.{◌≤◌};
 
-use chain_replay_calls::Told;
-use filter::{FilterOpt, Option8, Option16};
-use scan_cdp::{Examined, LoadCdp, Part, Progress, Settings, State};
+use chain_replay_calls::{Asked, CallKind, Called, Told};
+use filter::FilterOpt;
+use scan_cdp::{LoadCdp, Part, Progress, Refusal, Scan, Settings, State};
 use std::io;
+
+// The calls: a window that ends in the payload, and a longer one; one behind the byte place; a header of link 2; all that is left; the end;
+// and a call behind it.
+fn calls() -> [Asked; 7] {
+    [
+        asked(CallKind::Load, 0, 79, true),
+        asked(CallKind::Load, 0, 80, false),
+        asked(CallKind::Load, 81, 216, true),
+        asked(CallKind::Examination, 80, 64, true),
+        asked(CallKind::Load, 120, 216, true),
+        asked(CallKind::Load, 0, 216, true),
+        asked(CallKind::Load, 0, 216, true),
+    ]
+}
+
+fn asked(kind: CallKind, first: u64, size: u64, last: bool) -> Asked {
+    Asked {
+        kind,
+        first,
+        size,
+        last,
+    }
+}
 
 fn main(rt: HostRuntime) -> io::Result<()> {
     let rt = &rt;
     let recording = recording();
-    let loads = [true, true, true, false, true, true, true];
-    let first = 0;
-    replayed(rt, &recording, &loads[first..0])?;
-    replayed(rt, &recording, &loads[first..1])?;
-    replayed(rt, &recording, &loads[first..2])?;
-    replayed(rt, &recording, &loads[first..3])?;
-    replayed(rt, &recording, &loads[first..4])?;
-    replayed(rt, &recording, &loads[first..5])?;
-    replayed(rt, &recording, &loads[first..6])?;
-    replayed(rt, &recording, &loads[first..7])
+    let calls = calls();
+    for first in 0..=calls.len() {
+        replayed(rt, &recording, &calls[..first])?;
+    }
+    Ok(())
 }
 
 // Packets of links 1, 2 and 1, with 16 bytes, none and 32 bytes of payload, of which 8 are left.
@@ -49,68 +67,58 @@ fn packet(bytes: &mut [u8; 216], at: usize, size: u8, link: u8, trigger: u8)
 fn settings() -> Settings {
     Settings {
         filter: FilterOpt {
-            filter_link: Option8::Some(1),
-            filter_fee: Option16::None,
-            filter_its_stave: Option16::None,
+            filter_link: Some(1),
+            ..FilterOpt::default()
         },
         skip_payload: false,
         stats: true,
     }
 }
 
-// The calls: a window that ends in the payload, and a longer one; one behind the byte place; a header of link 2; all that is left; the end;
-// and a call behind it.
-fn replayed(rt: &impl Print, recording: &[u8], loads: &[bool]) -> io::Result<()> {
-    let firsts = [0, 0, 81, 80, 120, 0, 0];
-    let sizes = [79, 80, 216, 64, 216, 216, 216];
-    let lasts = [true, false, true, true, true, true, true];
-    let begun = State::new();
-    let progress = begun.progress;
-    let mut links = begun.links;
-    let mut triggers = begun.triggers;
-    let mut fee_ids = [0u16; 2];
-    let replayed = chain_replay::replay(
-        settings(),
-        progress,
-        &mut links,
-        &mut triggers,
-        &mut fee_ids,
-        recording,
-        loads,
-        &firsts,
-        &sizes,
-        &lasts,
-    );
+fn replayed(rt: &impl Print, recording: &[u8], calls: &[Asked]) -> io::Result<()> {
+    let mut state = State::new();
+    let mut fee_ids = [0; 2];
+    let mut scan = Scan {
+        set: settings(),
+        progress: state.progress,
+        links: &mut state.links,
+        triggers: &mut state.triggers,
+        fee_ids: &mut fee_ids,
+    };
+    let replayed = chain_replay::replay(&mut scan, recording, calls);
+    let progress = scan.progress;
     cases_show::text(rt, b"made")?;
     cases_show::number(rt, replayed.made as u64)?;
-    let last = replayed.last;
-    let answer = last.told;
-    let window = last.window;
-    let progress = last.progress;
-    told(rt, recording, window, answer)?;
+    told(rt, recording, replayed.last)?;
     left(rt, progress)?;
-    counted(rt, triggers[0], triggers[1], triggers[2])?;
-    if last.ends {
+    counted(rt, state.triggers[0], state.triggers[1], state.triggers[2])?;
+    if replayed.last.is_some_and(|called| called.ends) {
         cases_show::text(rt, b", the end")?;
     }
     cases_show::end(rt)
 }
 
-fn told(rt: &impl Print, recording: &[u8], window: Part, told: Told) -> io::Result<()> {
-    match told {
-        Told::Nothing => cases_show::text(rt, b" nothing")?,
+fn told(rt: &impl Print, recording: &[u8], last: Option<Called>) -> io::Result<()> {
+    let Some(called) = last else {
+        return cases_show::text(rt, b" nothing");
+    };
+    match called.told {
         Told::Examination(answer, _) => match answer {
-            Examined::Passed => cases_show::text(rt, b" passed")?,
-            Examined::Answered(found) => answered(rt, recording, window, found)?,
+            Ok(None) => cases_show::text(rt, b" passed"),
+            Ok(Some(found)) => answered(rt, recording, called.window, found),
+            Err(why) => refused(rt, why),
         },
-        Told::Load(found, marks) => {
-            answered(rt, recording, window, found)?;
+        Told::Load(answer, marks) => {
+            match answer {
+                Ok(found) => answered(rt, recording, called.window, found)?,
+                Err(why) => refused(rt, why)?,
+            }
             if marks.payload_cut {
                 cases_show::text(rt, b" cut")?;
             }
+            Ok(())
         }
     }
-    Ok(())
 }
 
 fn answered(rt: &impl Print, recording: &[u8], window: Part, found: LoadCdp) -> io::Result<()> {
@@ -119,20 +127,22 @@ fn answered(rt: &impl Print, recording: &[u8], window: Part, found: LoadCdp) -> 
             cases_show::text(rt, b" packet")?;
             cases_show::number(rt, packet.position.0)?;
             cases_show::number(rt, packet.own.0)?;
-            let payload = packet.payload;
-            cases_show::bytes(rt, chain_replay_calls::payload(recording, window, payload))?;
+            cases_show::bytes(
+                rt,
+                chain_replay_calls::payload(recording, window, packet.payload),
+            )
         }
         LoadCdp::Want(place, size) => {
             cases_show::text(rt, b" want")?;
             cases_show::number(rt, place.0)?;
-            cases_show::number(rt, size)?;
-        }
-        LoadCdp::Refused(why) => {
-            cases_show::text(rt, b" refused")?;
-            cases_show::number(rt, why.number() as u64)?;
+            cases_show::number(rt, size)
         }
     }
-    Ok(())
+}
+
+fn refused(rt: &impl Print, why: Refusal) -> io::Result<()> {
+    cases_show::text(rt, b" refused")?;
+    cases_show::number(rt, why.number() as u64)
 }
 
 fn left(rt: &impl Print, progress: Progress) -> io::Result<()> {
