@@ -93,7 +93,7 @@ impl Header {
         ensures { result ≡ (scan.now.set.stats && full (header_fee_id self.now.rdh) scan.now.progress.fee_ids_used scan.now.fee_ids.now) }
     {
         let fee_id = self.rdh.rdh0.fee_id.0;
-        scan.set.stats & stats::is_full(scan.fee_ids, scan.progress.fee_ids_used, fee_id)
+        scan.set.stats && stats::is_full(scan.fee_ids, scan.progress.fee_ids_used, fee_id)
     }
 
     // Lists the header's link and FEE id and counts its trigger word, if that is due.
