@@ -50,7 +50,8 @@ pub record Stepped (s : Scan) (j : Judged) (h : Header) (r : Examination) (after
   pub answer : (rest : List ℕ) → length rest ≡ h.left
       → examined_answer r.answer
       ≡ placed (h.start + 64)
-      (answer_in j.outcome j.rdh (payload_of j.set.skip_payload j.outcome j.rdh rest) (start_of s.progress.load s.progress.position) s.progress.position)
+      (answer_in j.outcome j.rdh (payload_of j.set.skip_payload j.outcome j.rdh rest) (start_of s.progress.load s.progress.position)
+      s.progress.position)
   pub marks : r.marks ≡ marks_of j.set j.outcome s.progress j.rdh h.left
   pub left : after
       ≡ record s {

@@ -1,5 +1,5 @@
-// Shows how the crates `stats` and `stats_search` are used from Rattle: counts at their edges, and searches through lists whose used part is empty, a part, all,
-// or said to be more than there is.
+// Shows how the crates `stats` and `stats_search` are used from Rattle: counts at their edges, and searches through lists whose used part is
+// empty, a part, all, or said to be more than there is.
 #![tactic(auto)]
 
 use stats_search::has;

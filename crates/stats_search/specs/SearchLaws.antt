@@ -77,7 +77,9 @@ module _ (l : List ℕ) (i x : ℕ) (seen : List Bool) (walked : Walked l i seen
       record {
         table = length-set seen x true ∙ walked.table;
         once = ap (λ (t : List ℕ). twice t) at_element ∙ twice_put x (take i l) walked.once (sym (walked.listed x byte) ∙ new);
-        listed = λ y below. looked_up y below (eqb y x) refl ∙ sym (ap (λ (t : List ℕ). member y t) at_element ∙ list_any-append (eqb y) (take i l) (x ∷ []));
+        listed = λ y below.
+            looked_up y below (eqb y x) refl
+            ∙ sym (ap (λ (t : List ℕ). member y t) at_element ∙ list_any-append (eqb y) (take i l) (x ∷ []));
       }
     where
       looked_up : (y : ℕ) → y < 256 → (b : Bool) → eqb y x ≡ b → get_or (set seen x true) y false ≡ (member y (take i l) || (eqb y x || false))

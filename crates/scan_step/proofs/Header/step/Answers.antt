@@ -32,5 +32,7 @@ returns-clause-examined c =
     let not-wanted = sym (ap (λ (b : Bool). not c.args.last && b) is_cut) ∙ c.if-last-is_cut.false in
     let counted = c.is_counted.ensures ∙ ap (λ (j : Judged). is_counted j.first j.outcome) judged in
     header_entered scan h c.args.last not-wanted (λ i. (judged i).set.stats && counted i)
-    (subst (λ (j : Judged). Stepped (listed (c.judge-judged.result.set.stats && c.is_counted.result) h.rdh scan) j h c.pass.result c.pass.new.scan) judged
+    (subst
+    (λ (j : Judged). Stepped (listed (c.judge-judged.result.set.stats && c.is_counted.result) h.rdh scan) j h c.pass.result c.pass.new.scan)
+    judged
     (subst (λ (s : Scan). Stepped s c.judge-judged.result h c.pass.result c.pass.new.scan) c.list.ensures c.pass.ensures))
