@@ -48,13 +48,14 @@ pub fn load_cdp(scan: &mut Scan, window: Window) -> Load
             marks,
         };
     }
-    loop {
+    let answer = loop {
         let next = take_step(scan, window);
         marks = together(marks, next.marks);
         if let Some(answer) = next.answer.transpose() {
-            return Load { answer, marks };
+            break answer;
         }
-    }
+    };
+    Load { answer, marks }
 }
 
 // Refusal 6 by a link that is listed twice.

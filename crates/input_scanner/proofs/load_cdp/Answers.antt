@@ -97,9 +97,9 @@ loop-answer-preserved c =
           (load_goes_on s₀.set _ (state_of s₀) s₀.fee_ids.now w window.first.0 window.last c.loop-answer.marks (state_of s) s.fee_ids.now turn _ is passes),
     )
 
-pub returns-in-Some-clause-loaded : goal.returns-in-Some-clause-loaded
+pub returns-clause-loaded : goal.returns-clause-loaded
 unfolding loaded
-returns-in-Some-clause-loaded c =
+returns-clause-loaded c =
     let s₀ = c.args.scan.now in
     let s = c.loop-answer.scan in
     let next = c.take_step-next.new.scan in
