@@ -1,7 +1,5 @@
 -- What the listing program starts with.
-use Rattle.std.specs.Prelude.{true, false}
-use Rattle.filter.specs.declared.Option8.TheVariants as Eight
-use Rattle.filter.specs.declared.Option16.TheVariants as Sixteen
+use Rattle.std.specs.Prelude.{true, false, None}
 use Rattle.validators.specs.declared.HeaderId.TheVariants.{NotSettled}
 use Rattle.validators.specs.declared.RdhCruSanityValidator.{RdhCruSanityValidator}
 use Rattle.scan_cdp.specs.declared.Settings.{Settings}
@@ -10,7 +8,7 @@ use Rattle.scan_cdp.specs.declared.Settings.{Settings}
 abbrev pub list_settings : Settings
 list_settings =
     record {
-      filter = record { filter_link = Eight.None; filter_fee = Sixteen.None; filter_its_stave = Sixteen.None };
+      filter = record { filter_link = None; filter_fee = None; filter_its_stave = None };
       skip_payload = false;
       stats = true;
     }

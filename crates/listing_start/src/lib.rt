@@ -4,7 +4,7 @@
 ghost use Rattle.std.specs.Prelude.{◌≡◌};
 ghost use Rattle.listing_start.specs.Start.{list_settings, new_validator};
 
-use filter::{FilterOpt, Option8, Option16};
+use filter::FilterOpt;
 use scan_cdp::Settings;
 use validators::{HeaderId, RdhCruSanityValidator};
 
@@ -23,11 +23,7 @@ pub fn list_settings() -> Settings
     ensures { result ≡ list_settings }
 {
     Settings {
-        filter: FilterOpt {
-            filter_link: Option8::None,
-            filter_fee: Option16::None,
-            filter_its_stave: Option16::None,
-        },
+        filter: FilterOpt::default(),
         skip_payload: false,
         stats: true,
     }
