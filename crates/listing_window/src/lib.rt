@@ -18,15 +18,14 @@ pub struct Held {
 }
 
 impl Held {
-    // The window that a scan is lent: what the buffer holds.
+    // The window that a scan is lent: what the buffer holds, or all of it where it is shorter than that.
     pub fn window<'a>(self, buffer: &'a [u8]) -> Window<'a>
-        requires { self.length ≤ length buffer.now }
         ensures bytes { result.bytes.now ≡ take self.length buffer.now }
         ensures first { result.first ≡ self.first }
         ensures last { result.last ≡ self.last }
     {
         Window {
-            bytes: &buffer[..self.length],
+            bytes: &buffer[..self.length.min(buffer.len())],
             first: self.first,
             last: self.last,
         }

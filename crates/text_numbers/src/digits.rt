@@ -7,7 +7,7 @@ use text::put_bytes;
 
 // With the letters in upper or in lower case. The digits are filled in from the last one back, and put in one go: there are places enough
 // for those of any number.
-pub fn put_digits<const BASE: u64, const PLACES: usize, const UPPER: bool>(
+pub(crate) fn put_digits<const BASE: u64, const PLACES: usize, const UPPER: bool>(
     out: &mut [u8],
     at: usize,
     n: u64,
