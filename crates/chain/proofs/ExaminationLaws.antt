@@ -23,7 +23,8 @@ use Rattle.scan_cdp.specs.declared.Outcome.{Outcome}
 use Rattle.scan_laws.proofs.OutcomeLaws.{Known, known_here}
 use Rattle.scan_laws.proofs.RowLaws.{answer_over, answer_as_lem, answer_cases, cut_more, cut_tells, either, entry_uncut}
 use Rattle.scan_laws.proofs.StepLaws.{Admitted, examined_cases, step_six}
-use Rattle.scan_laws.proofs.WindowLaws.{fitting, step-ended, step-header}
+use Rattle.std.proofs.lemmas.List.{take_min}
+use Rattle.scan_laws.proofs.WindowLaws.{step-ended, step-header}
 use Rattle.chain.specs.Calls.{Hold, Window, WindowOf, read_entry, free, held, held_back, needed, read_from}
 use Rattle.chain.specs.Chain.{Kept, next, place_of}
 use Rattle.chain.proofs.WindowOfLaws.{same_end, same_greater, same_header, same_payload, shown-all, shown_fits}
@@ -36,7 +37,7 @@ part_read w start size =
     let bytes = take size (drop start w) in
     by_test (λ (part : Part). bytes_at w part ≡ bytes) (eqb (length bytes) 0) _ _
     (λ none. sym (nil_from_length bytes (eqb-true (length bytes) 0 none)))
-    (λ some. ap (λ (n : ℕ). take n (drop start w)) (length-take size (drop start w)) ∙ fitting size (drop start w))
+    (λ some. ap (λ (n : ℕ). take n (drop start w)) (length-take size (drop start w)) ∙ take_min size (drop start w))
 
 none_read : (w : List ℕ) (start : ℕ) → bytes_at w (part_at start 0) ≡ []
 unfolding bytes_at part_at

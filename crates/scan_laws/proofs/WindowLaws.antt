@@ -1,6 +1,7 @@
 -- Laws of an examination: which of its cases a window meets, and that the part of the window that is handed out holds the payload.
-use Rattle.std.specs.Prelude.{ℕ, ◌+◌, ◌-◌, ◌≤◌, ◌<◌, min, Bool, true, false, not, ◌||◌, ◌&&◌, ◌≡◌, refl, List, [], leb, ltb, take, drop}
-use Rattle.std.proofs.Common.{ap, sym, ◌∙◌, arith, lt-ltb, le-ltb, ltb-false, leb-true, leb-false, length-take, length-drop, drop_of_length-le, take_all}
+use Rattle.std.specs.Prelude.{ℕ, ◌+◌, ◌-◌, ◌≤◌, ◌<◌, min, Bool, true, false, not, ◌||◌, ◌&&◌, ◌≡◌, refl, List, [], ltb, take, drop}
+use Rattle.std.proofs.lemmas.List.{drop_min}
+use Rattle.std.proofs.Common.{ap, ◌∙◌, arith, lt-ltb, le-ltb, ltb-false, length-take, length-drop}
 use Rattle.std.proofs.Math.ListN.{length}
 use Rattle.basis.specs.Pick.{pick}
 use Rattle.basis.specs.PickLaws.{on, off}
@@ -10,8 +11,7 @@ use Rattle.serde_rdh.specs.Layout.{decoded}
 use Rattle.scan_cdp.specs.Answers.{wants}
 use Rattle.scan_cdp.specs.Steps.{answer_in, cut, ended, entry_at, payload_of, step, step_unless, unchanged, unusable}
 use Rattle.scan_cdp.specs.Outcomes.{payload_size}
-use Rattle.scan_cdp.specs.Windows.{bytes_at, examined, examined_unless, located, outside, part_at, placed, reply_for, shown, wanting}
-use Rattle.scan_cdp.specs.declared.Part.{Part}
+use Rattle.scan_cdp.specs.Windows.{examined, examined_unless, located, outside, part_at, placed, reply_for, shown, wanting}
 use Rattle.scan_cdp.specs.declared.Position.{Position}
 use Rattle.scan_cdp.specs.declared.Settings.{Settings}
 use Rattle.scan_cdp.specs.declared.State.{State}
@@ -126,40 +126,6 @@ module _ (set : Settings) (s : State) (fee_ids w : List ℕ) (first : ℕ) (last
     unfolding examined
     examined-header = unless_header six set s fee_ids w first last usable inside
 
--- ---- the bytes of a part
-
-pub fitting : (n : ℕ) (l : List ℕ) → take (min n (length l)) l ≡ take n l
-fitting n l = by_length (leb n (length l)) refl
-  where
-    by_length : (b : Bool) → leb n (length l) ≡ b → take (min n (length l)) l ≡ take n l
-    by_length true e =
-        let least : min n (length l) ≡ n = omega (arith, leb-true n (length l) e) in
-        ap (λ (k : ℕ). take k l) least
-    by_length false e =
-        let h = leb-false n (length l) e in
-        take_all (min n (length l)) l (omega (arith, h)) ∙ sym (take_all n l (omega (arith, h)))
-
-dropping : (n : ℕ) (l : List ℕ) → drop (min n (length l)) l ≡ drop n l
-dropping n l = by_length (leb n (length l)) refl
-  where
-    by_length : (b : Bool) → leb n (length l) ≡ b → drop (min n (length l)) l ≡ drop n l
-    by_length true e =
-        let least : min n (length l) ≡ n = omega (arith, leb-true n (length l) e) in
-        ap (λ (k : ℕ). drop k l) least
-    by_length false e =
-        let h = leb-false n (length l) e in
-        drop_of_length-le l {i = min n (length l)} (omega (arith, h)) ∙ sym (drop_of_length-le l {i = n} (omega (arith, h)))
-
--- A part that reaches beyond the window has the bytes that the window has of it.
-pub bytes_within : (w : List ℕ) (part : Part) (start n : ℕ) → start ≡ min part.start (length w)
-    → n ≡ min part.length (length w - start) → take (start + n - start) (drop start w) ≡ bytes_at w part
-unfolding bytes_at
-bytes_within w part start n begins size =
-    let k = part.length in
-    let bytes : drop start w ≡ drop part.start w = ap (λ (i : ℕ). drop i w) begins ∙ dropping part.start w in
-    let taken : start + n - start ≡ min k (length (drop start w)) = omega (arith, size, length-drop start w) in
-    ap (λ (i : ℕ). take i (drop start w)) taken ∙ fitting k (drop start w) ∙ ap (λ (l : List ℕ). take k l) bytes
-
 -- What a window shows of the recording from a place on that is so far behind its first one.
 pub shown_within : (place first : ℕ) (w : List ℕ) (start : ℕ) → start ≡ min (place - first) (length w) → drop start w ≡ shown place first w
-shown_within place first w start e = ap (λ (i : ℕ). drop i w) e ∙ dropping (place - first) w
+shown_within place first w start e = ap (λ (i : ℕ). drop i w) e ∙ drop_min (place - first) w
