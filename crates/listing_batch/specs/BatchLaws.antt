@@ -11,20 +11,22 @@ use Rattle.basis.specs.Pick.{pick}
 use Rattle.basis.specs.PickLaws.{off, on}
 use Rattle.basis.specs.Refusals.{Answer, gives, refuses}
 use Rattle.rdh.specs.declared.rdh_cru.RdhCru.{RdhCru}
-use Rattle.text.specs.Put.{Put}
-use Rattle.text.specs.PutLaws.{respelled, sets_append}
+use Rattle.text_writer.specs.Writer.{extended}
+use Rattle.text_writer.specs.declared.TextWriter.{TextWriter}
+use Rattle.text_writer.proofs.WriterLaws.{extended_append, extended_nothing}
 use Rattle.validators.specs.declared.RdhCruSanityValidator.{RdhCruSanityValidator}
 use Rattle.scan_cdp.specs.Answers.{Found, handed, passed, wants}
 use Rattle.scan_cdp.specs.Loads.{Loaded, loaded}
-use Rattle.scan_cdp.specs.Steps.{with_lent}
+use Rattle.scan_cdp.specs.Scans.{state_of}
 use Rattle.scan_cdp.specs.declared.Part.{Part}
+use Rattle.scan_cdp.specs.declared.Scan.{Scan}
 use Rattle.scan_cdp.specs.declared.Settings.{Settings}
-use Rattle.scan_cdp.specs.declared.Progress.{Progress}
 use Rattle.scan_cdp.specs.declared.State.{State}
 use Rattle.input_scanner.specs.Replies.{load_of}
 use Rattle.listing_lines.specs.Lines.{line_at, room}
 use Rattle.listing_packet.specs.Packets.{packet_lines}
-use Rattle.listing_load.specs.LoadLines.{Lists, lines_of, unsound_in, validator_of}
+use Rattle.listing_load.specs.LoadLines.{Lists, lines_of, unsound_in, validator_of, written}
+use Rattle.listing_load.specs.LoadLinesLaws.{written_extends}
 use Rattle.listing_load.specs.declared.Listed.{Listed}
 use Rattle.listing_batch.specs.Batches.{Batched, Batches, answered, batched, batched_from, unsound_with, is_packet, stop_of, stopped}
 use Rattle.listing_batch.specs.declared.Stop.{Stop}
@@ -51,11 +53,10 @@ one_at_most true = omega arith
 one_at_most false = omega arith
 
 -- a reply with what the loads leave
-batches : (b : Batched) (out : List ℕ) (why : Stop) (v : RdhCruSanityValidator) (p : Progress) (at bad : ℕ)
-    → (links triggers fee_ids left text : List ℕ) → b ≡ stopped (stop_of why) v (with_lent p links triggers) fee_ids text bad
-    → at ≡ length text → left ≡ sets out 0 text → length text ≤ length out
-    → Batches b out (record { stop = why; progress = p; validator = v; length = at; unsound = bad }) links triggers fee_ids left
-batches b out why v p at bad links triggers fee_ids left text is next stored within =
+batches : (b : Batched) (out : List ℕ) (why : Stop) (scan : Scan) (after : RdhCruSanityValidator) (at bad : ℕ) (left text : List ℕ)
+    → b ≡ stopped (stop_of why) after (state_of scan) scan.fee_ids.now text bad → at ≡ length text → left ≡ sets out 0 text
+    → length text ≤ length out → Batches b out (record { stop = why; length = at; unsound = bad }) scan after left
+batches b out why scan after at bad left text is next stored within =
     let there = ap (λ (x : Batched). x.text) (sym is) in
     record {
       stop = ap (λ (x : Batched). x.stop) (sym is);
@@ -72,160 +73,174 @@ module _ (set : Settings) (v₀ : RdhCruSanityValidator) (s₀ : State) (fee_ids
   abbrev pub whole : Batched
   whole = batched set v₀ s₀ fee_ids₀ w first last (length out₀)
 
-  -- A turn of the loop: the lines so far stand in the buffer, and the loads from here on give what all give, with enough of them to come.
-  pub record ListTurn (v : RdhCruSanityValidator) (s : State) (fee_ids out : List ℕ) (at bad : ℕ) : Type 0 where
+  -- A turn of the loop, for a writer that began as `x₀`: it has written the lines so far, and the loads from here on give what all give, with
+  -- enough of them to come.
+  pub record ListTurn (x₀ : TextWriter) (v : RdhCruSanityValidator) (s : State) (fee_ids : List ℕ) (x : TextWriter) (bad : ℕ) : Type 0 where
     pub turns : ℕ
     pub text : List ℕ
     pub same : whole ≡ batched_from (suc turns) set v s fee_ids text bad w first last (length out₀)
     pub to_come_lem : length out₀ < length text + suc turns
-    pub fee-ids : length fee_ids ≡ length fee_ids₀
-    pub stored : out ≡ sets out₀ 0 text
-    pub next : at ≡ length text
+    pub start : x₀.count ≡ 0
+    pub lent : x₀.buf.now ≡ out₀
+    pub room : length out₀ < 2 ^ 64
+    pub lines : x ≡ extended x₀ text
     pub within : length text ≤ length out₀
     pub few : bad ≤ length text
 
-  pub list_begins : ListTurn v₀ s₀ fee_ids₀ out₀ 0 0
+  pub list_begins : (x₀ : TextWriter) → x₀.count ≡ 0 → x₀.buf.now ≡ out₀ → length out₀ < 2 ^ 64 → ListTurn x₀ v₀ s₀ fee_ids₀ x₀ 0
   unfolding batched
-  list_begins =
+  list_begins x₀ start lent room =
       record {
         turns = length out₀;
         text = [];
         same = refl;
         to_come_lem = omega arith;
-        fee-ids = refl;
-        stored = refl;
-        next = refl;
+        start = start;
+        lent = lent;
+        room = room;
+        lines = extended_nothing x₀ (omega (arith, start));
         within = omega arith;
         few = omega arith;
       }
 
 module _ {set : Settings} {v₀ : RdhCruSanityValidator} {s₀ : State} {fee_ids₀ w : List ℕ} {first : ℕ} {last : Bool} {out₀ : List ℕ}
-    {v : RdhCruSanityValidator} {s : State} {fee_ids out : List ℕ} {at bad : ℕ}
-    (here : ListTurn set v₀ s₀ fee_ids₀ w first last out₀ v s fee_ids out at bad) where
+    {x₀ : TextWriter} {v : RdhCruSanityValidator} {s : State} {fee_ids : List ℕ} {x : TextWriter} {bad : ℕ}
+    (here : ListTurn set v₀ s₀ fee_ids₀ w first last out₀ x₀ v s fee_ids x bad) where
   abbrev all : Batched
   all = whole set v₀ s₀ fee_ids₀ w first last out₀
 
-  -- the buffer is as long as at the start
-  pub same_size : length out ≡ length out₀
-  same_size = ap length here.stored ∙ length-sets out₀ 0 here.text
+  -- a text that fits stands at the buffer's start, and is counted
+  stored_by : (y : TextWriter) (t : List ℕ) → y ≡ extended x₀ t → y.buf.now ≡ sets out₀ 0 t
+  stored_by y t is =
+      ap (λ (z : TextWriter). z.buf.now) is
+      ∙ ap (λ (n : ℕ). sets x₀.buf.now n t) here.start
+      ∙ ap (λ (l : List ℕ). sets l 0 t) here.lent
 
-  pub at_within : at ≤ length out
-  at_within = omega (arith, here.next, here.within, same_size)
+  next_by : (y : TextWriter) (t : List ℕ) → y ≡ extended x₀ t → length t ≤ length out₀ → y.count ≡ length t
+  next_by y t is within = omega (arith, ap (λ (z : TextWriter). z.count) is, here.start, here.room, within)
+
+  next : x.count ≡ length here.text
+  next = next_by x here.text here.lines here.within
+
+  -- the writer still has the buffer that it began with
+  pub same_buffer : x.buf.ghost_name ≡ x₀.buf.ghost_name
+  same_buffer = ap (λ (z : TextWriter). z.buf.ghost_name) here.lines
+
+  -- the buffer is as long as at the start
+  pub same_size : length x.buf.now ≡ length out₀
+  same_size = ap length (stored_by x here.text here.lines) ∙ length-sets out₀ 0 here.text
+
+  pub at_within : x.count ≤ length x.buf.now
+  at_within = omega (arith, next, here.within, same_size)
 
   -- with no room there is no further load
-  pub list_full : length out - at < room
-      → Batches all out₀ (record { stop = Why.Full; progress = s.progress; validator = v; length = at; unsound = bad }) s.links
-      s.triggers fee_ids out
+  pub list_full : {at : ℕ} {left : List ℕ} (scan : Scan) → state_of scan ≡ s → scan.fee_ids.now ≡ fee_ids → length x.buf.now - x.count < room
+      → at ≡ x.count → left ≡ x.buf.now → Batches all out₀ (record { stop = Why.Full; length = at; unsound = bad }) scan v left
   unfolding batched_from
-  list_full short =
-      batches all out₀ Why.Full v s.progress at bad s.links s.triggers fee_ids out here.text
-      (here.same ∙ on _ _ (lt-ltb (length out₀) (length here.text + room) (omega (arith, short, at_within, here.next, same_size))))
-      here.next here.stored here.within
+  list_full {at} {left} scan state ids short count kept =
+      batches all out₀ Why.Full scan v at bad left here.text
+      (here.same ∙ on _ _ (lt-ltb (length out₀) (length here.text + room) (omega (arith, short, at_within, next, same_size)))
+      ∙ (λ i. stopped (stop_of Why.Full) v (sym state i) (sym ids i) here.text bad))
+      (count ∙ next) (kept ∙ stored_by x here.text here.lines) here.within
 
-  module _ {r : Listed} {links' triggers' fee_ids' left : List ℕ}
-      (lists : Lists (loaded set s fee_ids w first last) v out at r links' triggers' fee_ids' left)
-      (test : room ≤ length out - at) where
-    roomy : at + room ≤ length out
+  module _ {r : Listed} {scan : Scan} {after : RdhCruSanityValidator} {y : TextWriter} {k : ℕ}
+      (lists : Lists (loaded set s fee_ids w first last) v x r scan after y)
+      (told : k ≡ bool_byte r.unsound)
+      (test : room ≤ length x.buf.now - x.count) where
+    roomy : x.count + room ≤ length x.buf.now
     roomy = omega (arith, test, at_within)
 
     abbrev got : Loaded Part
-    got = load_of r.load links' triggers' fee_ids'
+    got = load_of r.load scan
 
     abbrev more : List ℕ
     more = here.text ++ lines_of v got.answer got
 
     abbrev worse : ℕ
-    worse = bad + bool_byte r.unsound
+    worse = bad + k
 
-    validator_there : validator_of v got.answer ≡ r.validator
-    validator_there = sym (lists.validator ∙ ap (λ (x : Loaded Part). validator_of v x.answer) (sym lists.load))
+    validator_there : validator_of v got.answer ≡ after
+    validator_there = sym (lists.validator ∙ ap (λ (l : Loaded Part). validator_of v l.answer) (sym lists.load))
 
-    unsound_there : pick (unsound_in v got.answer) 1 0 ≡ bool_byte r.unsound
+    unsound_there : pick (unsound_in v got.answer) 1 0 ≡ k
     unsound_there =
-        ap (λ (x : Bool). pick x 1 0) (sym (lists.unsound ∙ ap (λ (x : Loaded Part). unsound_in v x.answer) (sym lists.load)))
-        ∙ sym (as_number r.unsound)
+        ap (λ (b : Bool). pick b 1 0) (sym (lists.unsound ∙ ap (λ (l : Loaded Part). unsound_in v l.answer) (sym lists.load)))
+        ∙ sym (told ∙ as_number r.unsound)
 
     -- the loads after this one
     turned : batched_from (suc here.turns) set v s fee_ids here.text bad w first last (length out₀)
         ≡ pick (is_packet got.answer)
-        (batched_from here.turns set r.validator (with_lent r.load.progress links' triggers') fee_ids' more worse w first last (length out₀))
-        (stopped (answered got.answer) r.validator (with_lent r.load.progress links' triggers') fee_ids' more worse)
+        (batched_from here.turns set after (state_of scan) scan.fee_ids.now more worse w first last (length out₀))
+        (stopped (answered got.answer) after (state_of scan) scan.fee_ids.now more worse)
     unfolding batched_from
     turned =
-        off _ _ (le-ltb (length out₀) (length here.text + room) (omega (arith, here.next, same_size)))
-        ∙ ap (λ (x : Loaded Part).
-        pick (is_packet x.answer)
-        (batched_from here.turns set (validator_of v x.answer) x.state x.fee_ids (here.text ++ lines_of v x.answer x)
-        (unsound_with bad (unsound_in v x.answer)) w first last (length out₀))
-        (stopped (answered x.answer) (validator_of v x.answer) x.state x.fee_ids (here.text ++ lines_of v x.answer x)
-        (unsound_with bad (unsound_in v x.answer))))
+        off _ _ (le-ltb (length out₀) (length here.text + room) (omega (arith, roomy, next, same_size)))
+        ∙ ap (λ (l : Loaded Part).
+        pick (is_packet l.answer)
+        (batched_from here.turns set (validator_of v l.answer) l.state l.fee_ids (here.text ++ lines_of v l.answer l)
+        (unsound_with bad (unsound_in v l.answer)) w first last (length out₀))
+        (stopped (answered l.answer) (validator_of v l.answer) l.state l.fee_ids (here.text ++ lines_of v l.answer l)
+        (unsound_with bad (unsound_in v l.answer))))
         (sym lists.load)
         ∙ (λ i.
         pick (is_packet got.answer)
-        (batched_from here.turns set (validator_there i) (with_lent r.load.progress links' triggers') fee_ids' more
-        (bad + unsound_there i) w first last
-        (length out₀))
-        (stopped (answered got.answer) (validator_there i) (with_lent r.load.progress links' triggers') fee_ids' more (bad + unsound_there i)))
-
-    lines_put : Put out at (lines_of v got.answer got) left r.at
-    lines_put = respelled (ap (λ (x : Loaded Part). lines_of v x.answer x) (sym lists.load)) lists.lines
+        (batched_from here.turns set (validator_there i) (state_of scan) scan.fee_ids.now more (bad + unsound_there i) w first last (length out₀))
+        (stopped (answered got.answer) (validator_there i) (state_of scan) scan.fee_ids.now more (bad + unsound_there i)))
 
     lines_short : length (lines_of v got.answer got) ≤ room
-    lines_short =
-        omega (arith, ap (λ (x : Loaded Part). length (lines_of v x.answer x)) lists.load, lists.short)
+    lines_short = omega (arith, ap (λ (l : Loaded Part). length (lines_of v l.answer l)) lists.load, lists.short)
 
     length_more : length more ≡ length here.text + length (lines_of v got.answer got)
     length_more = length-append here.text (lines_of v got.answer got)
 
-    next_there : r.at ≡ length more
-    next_there = omega (arith, lines_put.next, lines_put.room, lines_short, here.next, length_more, roomy)
-
-    stored_there : left ≡ sets out₀ 0 more
-    stored_there =
-        lines_put.stored
-        ∙ ap (λ (l : List ℕ). sets l at (lines_of v got.answer got)) here.stored
-        ∙ ap (λ (n : ℕ). sets (sets out₀ 0 here.text) n (lines_of v got.answer got)) (omega (arith, here.next))
-        ∙ sym (sets_append here.text (lines_of v got.answer got) out₀ 0)
-
     more_within : length more ≤ length out₀
-    more_within = omega (arith, lines_short, here.next, length_more, roomy, same_size)
+    more_within = omega (arith, lines_short, next, length_more, roomy, same_size)
 
-    -- there are fewer packets than bytes
-    pub count_fits : bad + bool_byte r.unsound < 2 ^ 64
-    count_fits = omega (arith, here.few, here.next, roomy, lists.lines.room, one_at_most r.unsound)
+    lines_there : y ≡ extended x₀ more
+    lines_there =
+        lists.lines
+        ∙ ap (λ (l : Loaded Part). written x (lines_of v l.answer l)) (sym lists.load)
+        ∙ written_extends x (lines_of v got.answer got) (omega (arith, next, here.within, here.room))
+        ∙ ap (λ (z : TextWriter). extended z (lines_of v got.answer got)) here.lines
+        ∙ extended_append x₀ here.text (lines_of v got.answer got) (omega (arith, ap length here.lent, here.room))
+
+    pub still_lent : y.buf.ghost_name ≡ x₀.buf.ghost_name
+    still_lent = ap (λ (z : TextWriter). z.buf.ghost_name) lines_there
+
+    next_there : y.count ≡ length more
+    next_there = next_by y more lines_there more_within
 
     -- an answer with no packet ends it
-    pub list_ends : is_packet got.answer ≡ false
-        → Batches all out₀
-        (record { stop = Why.Answered r.load.answer; progress = r.load.progress; validator = r.validator; length = r.at; unsound = worse })
-        links' triggers' fee_ids' left
-    list_ends stops =
-        batches all out₀ (Why.Answered r.load.answer) r.validator r.load.progress r.at worse links' triggers' fee_ids' left more
-        (here.same ∙ turned ∙ off _ _ stops) next_there stored_there more_within
+    pub list_ends : {at : ℕ} {left : List ℕ} → is_packet got.answer ≡ false → at ≡ y.count → left ≡ y.buf.now
+        → Batches all out₀ (record { stop = Why.Answered r.load.answer; length = at; unsound = worse }) scan after left
+    list_ends {at} {left} stops count kept =
+        batches all out₀ (Why.Answered r.load.answer) scan after at worse left more
+        (here.same ∙ turned ∙ off _ _ stops) (count ∙ next_there) (kept ∙ stored_by y more lines_there) more_within
 
     -- a packet leads to the next turn, behind its lines
-    pub list_moves : is_packet got.answer ≡ true → at < r.at
+    pub list_moves : is_packet got.answer ≡ true → x.count < y.count
     list_moves goes =
-        omega (arith, packet_there v got.answer got goes, next_there, here.next, length_more)
+        omega (arith, packet_there v got.answer got goes, next_there, next, length_more)
 
-    pub list_goes_on : is_packet got.answer ≡ true → length fee_ids' ≡ length fee_ids
-        → ListTurn set v₀ s₀ fee_ids₀ w first last out₀ r.validator (with_lent r.load.progress links' triggers') fee_ids' left r.at worse
-    list_goes_on goes kept = further here.turns refl (here.same ∙ turned ∙ on _ _ goes)
+    pub list_goes_on : is_packet got.answer ≡ true
+        → ListTurn set v₀ s₀ fee_ids₀ w first last out₀ x₀ after (state_of scan) scan.fee_ids.now y worse
+    list_goes_on goes = further here.turns refl (here.same ∙ turned ∙ on _ _ goes)
       where
         further : (n : ℕ) → n ≡ here.turns
-            → all ≡ batched_from n set r.validator (with_lent r.load.progress links' triggers') fee_ids' more worse w first last (length out₀)
-            → ListTurn set v₀ s₀ fee_ids₀ w first last out₀ r.validator (with_lent r.load.progress links' triggers') fee_ids' left r.at worse
+            → all ≡ batched_from n set after (state_of scan) scan.fee_ids.now more worse w first last (length out₀)
+            → ListTurn set v₀ s₀ fee_ids₀ w first last out₀ x₀ after (state_of scan) scan.fee_ids.now y worse
         further zero is same =
-            absurd (omega (arith, is, here.to_come_lem, list_moves goes, next_there, here.next, more_within))
+            absurd (omega (arith, is, here.to_come_lem, list_moves goes, next_there, next, more_within))
         further (suc n) is same =
             record {
               turns = n;
               text = more;
               same = same;
-              to_come_lem = omega (arith, is, here.to_come_lem, list_moves goes, next_there, here.next);
-              fee-ids = kept ∙ here.fee-ids;
-              stored = stored_there;
-              next = next_there;
+              to_come_lem = omega (arith, is, here.to_come_lem, list_moves goes, next_there, next);
+              start = here.start;
+              lent = here.lent;
+              room = here.room;
+              lines = lines_there;
               within = more_within;
-              few = omega (arith, here.few, list_moves goes, next_there, here.next, one_at_most r.unsound);
+              few = omega (arith, here.few, list_moves goes, next_there, next, one_at_most r.unsound, told);
             }

@@ -6,8 +6,9 @@ use Rattle.basis.specs.Refusals.{Answer, gives, refuses}
 use Rattle.validators.specs.declared.RdhCruSanityValidator.{RdhCruSanityValidator}
 use Rattle.scan_cdp.specs.Answers.{Found, handed, load_answer, passed, wants}
 use Rattle.scan_cdp.specs.Loads.{loaded}
-use Rattle.scan_cdp.specs.Steps.{with_lent}
+use Rattle.scan_cdp.specs.Scans.{state_of}
 use Rattle.scan_cdp.specs.declared.Part.{Part}
+use Rattle.scan_cdp.specs.declared.Scan.{Scan}
 use Rattle.scan_cdp.specs.declared.Settings.{Settings}
 use Rattle.scan_cdp.specs.declared.State.{State}
 use Rattle.listing_lines.specs.Lines.{room}
@@ -69,16 +70,15 @@ batched set v s fee_ids w first last size = batched_from (suc size) set v s fee_
 -- Why the code stopped.
 abbrev pub stop_of : Stop → Stopped
 stop_of Why.Full = full
-stop_of Why.TooShort = buffer_too_short room
 stop_of (Why.Answered a) = answered (load_answer a)
 
--- What the loop promises: it makes these loads and puts their lines into the buffer `out` from its start on. `r` is its reply, and `links`,
--- `fee_ids` and `left` are what it leaves of the lists and in the buffer. The text fits.
-pub record Batches (b : Batched) (out : List ℕ) (r : Batch) (links triggers fee_ids left : List ℕ) : Type 0 where
+-- What the loop promises: it makes these loads and puts their lines into the buffer `out` from its start on. `r` is its reply, and `scan`,
+-- `after` and `left` are what it leaves of the scan, in the validator and in the buffer. The text fits.
+pub record Batches (b : Batched) (out : List ℕ) (r : Batch) (scan : Scan) (after : RdhCruSanityValidator) (left : List ℕ) : Type 0 where
   pub stop : stop_of r.stop ≡ b.stop
-  pub state : with_lent r.progress links triggers ≡ b.state
-  pub fee-ids : fee_ids ≡ b.fee_ids
-  pub validator : r.validator ≡ b.validator
+  pub state : state_of scan ≡ b.state
+  pub fee-ids : scan.fee_ids.now ≡ b.fee_ids
+  pub validator : after ≡ b.validator
   pub unsound : r.unsound ≡ b.unsound
   pub bytes : r.length ≡ length b.text
   pub stored : left ≡ sets out 0 b.text

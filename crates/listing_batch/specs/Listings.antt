@@ -1,8 +1,10 @@
 -- What a call leaves that lists into a lent buffer: its reply and the final content of what was lent.
-use Rattle.std.specs.Prelude.{ℕ, Bool, List, ◌++◌, ltb, length, drop}
+use Rattle.std.specs.Prelude.{ℕ, Bool, List, ◌++◌, ltb, length, drop, Result, Ok, Err}
 use Rattle.basis.specs.Pick.{pick}
+use Rattle.text.specs.declared.TooShort.{TooShort}
 use Rattle.validators.specs.declared.RdhCruSanityValidator.{RdhCruSanityValidator}
-use Rattle.scan_cdp.specs.Steps.{with_lent}
+use Rattle.scan_cdp.specs.Scans.{state_of}
+use Rattle.scan_cdp.specs.declared.Scan.{Scan}
 use Rattle.scan_cdp.specs.declared.Settings.{Settings}
 use Rattle.scan_cdp.specs.declared.State.{State}
 use Rattle.listing_lines.specs.Lines.{room}
@@ -19,15 +21,25 @@ pub record Listing : Type 0 where
   pub fee_ids : List ℕ
   pub out : List ℕ
 
-abbrev pub listing_of : Batch → (links triggers fee_ids out : List ℕ) → Listing
-listing_of r links triggers fee_ids out =
+abbrev pub listing_of : Result Batch TooShort → Scan → RdhCruSanityValidator → (out : List ℕ) → Listing
+listing_of (Ok b) scan after out =
     record {
-      stop = stop_of r.stop;
-      state = with_lent r.progress links triggers;
-      validator = r.validator;
-      bytes = r.length;
-      unsound = r.unsound;
-      fee_ids = fee_ids;
+      stop = stop_of b.stop;
+      state = state_of scan;
+      validator = after;
+      bytes = b.length;
+      unsound = b.unsound;
+      fee_ids = scan.fee_ids.now;
+      out = out;
+    }
+listing_of (Err e) scan after out =
+    record {
+      stop = buffer_too_short e.needed;
+      state = state_of scan;
+      validator = after;
+      bytes = e.needed;
+      unsound = 0;
+      fee_ids = scan.fee_ids.now;
       out = out;
     }
 

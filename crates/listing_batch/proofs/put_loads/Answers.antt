@@ -1,49 +1,69 @@
 -- Each turn is one load and its lines; the loads from there on give what all of them give.
-use mathlib.Core.Path.{sym, ◌∙◌}
-use native.Mathlib.Omega.{arith}
-use Rattle.scan_cdp.specs.Steps.{with_lent}
-use Rattle.listing_batch.specs.BatchLaws.{at_within, count_fits, list_begins, list_ends, list_full, list_goes_on, list_moves, same_size}
+use Rattle.std.proofs.Common.{ℕ, Bool, List, ap, refl, rules, sym, subst, ◌∙◌, arith}
+use Rattle.validators.specs.declared.RdhCruSanityValidator.{RdhCruSanityValidator}
+use Rattle.text_writer.specs.declared.TextWriter.{TextWriter}
+use Rattle.scan_cdp.specs.Loads.{loaded}
+use Rattle.scan_cdp.specs.Scans.{SameScan, state_of}
+use Rattle.scan_cdp.specs.declared.Scan.{Scan}
+use Rattle.scan_cdp.specs.declared.Settings.{Settings}
+use Rattle.listing_load.specs.LoadLines.{Lists}
+use Rattle.listing_load.specs.declared.Listed.{Listed}
+use Rattle.listing_batch.specs.BatchLaws.{at_within, list_begins, list_ends, list_full, list_goes_on, list_moves, same_buffer, same_size, still_lent}
 use Rattle.listing_batch.proofs.put_loads.Goals as goal
 
-pub loop-out-init : goal.loop-out-init
-loop-out-init c =
+-- A load on a scan that goes on as the same one is a load with the settings at the start.
+lists_as : {s₀ s : Scan} (w : List ℕ) (first : ℕ) (last : Bool) {v : RdhCruSanityValidator} {x : TextWriter} {r : Listed} {scan : Scan}
+    {after : RdhCruSanityValidator} {y : TextWriter} → SameScan s₀ s
+    → Lists (loaded s.set (state_of s) s.fee_ids.now w first last) v x r scan after y
+    → Lists (loaded s₀.set (state_of s) s.fee_ids.now w first last) v x r scan after y
+lists_as {s₀} {s} w first last {v} {x} {r} {scan} {after} {y} same lists =
+    subst (λ (set : Settings). Lists (loaded set (state_of s) s.fee_ids.now w first last) v x r scan after y) same.set lists
+
+pub loop-w-init : goal.loop-w-init
+loop-w-init c =
     let args = c.args in
-    list_begins args.set args.validator (with_lent args.progress args.links.now args.triggers.now) args.fee_ids.now
-    args.window.now args.first.0 args.last args.out.now
+    let s = args.scan.now in
+    let window = args.window in
+    let begun = c.new-w.ensures in (
+      record { set = refl; links = refl; triggers = refl; fee_ids = refl },
+      list_begins s.set args.validator.now (state_of s) s.fee_ids.now window.bytes.now window.first.0 window.last args.out.now c.new-w.result
+          (ap (λ (x : TextWriter). x.count) begun) (ap (λ (x : TextWriter). x.buf.now) begun) (search rules),
+    )
 
-pub overflow_sub-out : goal.overflow_sub-out
-overflow_sub-out c = omega (arith, at_within c.loop-out.invariant)
+pub overflow_sub-w : goal.overflow_sub-w
+overflow_sub-w c = at_within c.loop-w.invariant.1
 
-pub overflow_add-unsound : goal.overflow_add-unsound
-overflow_add-unsound c = omega (arith, count_fits c.loop-out.invariant c.list_cdp-listed.ensures c.loop-out-test.true)
-
-pub shape_of-fee_ids-then-not-is_packet : goal.shape_of-fee_ids-then-not-is_packet
-shape_of-fee_ids-then-not-is_packet c = c.list_cdp-listed.auto.fee_ids ∙ c.loop-out.invariant.fee-ids
-
-pub shape_of-out-then-not-is_packet : goal.shape_of-out-then-not-is_packet
-shape_of-out-then-not-is_packet c = c.list_cdp-listed.auto.out ∙ same_size c.loop-out.invariant
-
-pub returns-then-not-is_packet : goal.returns-then-not-is_packet
-returns-then-not-is_packet c =
+pub returns-then-not-is_packet-clause-listed : goal.returns-then-not-is_packet-clause-listed
+returns-then-not-is_packet-clause-listed c =
+    let (same, turn) = c.loop-w.invariant in
+    let lists = lists_as _ _ _ same c.list_cdp-listed.ensures.lists in
     let stops = sym c.is_packet.ensures ∙ c.if-not-is_packet.true in
-    list_ends c.loop-out.invariant c.list_cdp-listed.ensures c.loop-out-test.true stops
+    let lent = still_lent turn lists c.from-unsound.ensures c.loop-w-test.true in
+    let begun = ap (λ (x : TextWriter). x.buf.ghost_name) c.new-w.ensures in
+    list_ends turn lists c.from-unsound.ensures c.loop-w-test.true stops c.count.ensures.0 (search (rules, lent, begun, c.count.ensures))
 
-pub loop-out-smaller : goal.loop-out-smaller
-loop-out-smaller c =
+pub loop-w-smaller : goal.loop-w-smaller
+loop-w-smaller c =
+    let (same, turn) = c.loop-w.invariant in
+    let lists = lists_as _ _ _ same c.list_cdp-listed.ensures.lists in
     let goes = sym c.is_packet.ensures ∙ c.if-not-is_packet.false in
-    let moves = list_moves c.loop-out.invariant c.list_cdp-listed.ensures c.loop-out-test.true goes in
-    omega (arith, moves, c.loop-out-test.true, same_size c.loop-out.invariant)
+    let moves = list_moves turn lists c.from-unsound.ensures c.loop-w-test.true goes in
+    let next = list_goes_on turn lists c.from-unsound.ensures c.loop-w-test.true goes in
+    omega (arith, moves, c.loop-w-test.true, same_size turn, same_size next)
 
-pub loop-out-preserved : goal.loop-out-preserved
-loop-out-preserved c =
-    let goes = sym c.is_packet.ensures ∙ c.if-not-is_packet.false in
-    list_goes_on c.loop-out.invariant c.list_cdp-listed.ensures c.loop-out-test.true goes c.list_cdp-listed.auto.fee_ids
+pub loop-w-preserved : goal.loop-w-preserved
+loop-w-preserved c =
+    let (same, turn) = c.loop-w.invariant in
+    let still = c.list_cdp-listed.ensures.same in
+    let lists = lists_as _ _ _ same c.list_cdp-listed.ensures.lists in
+    let goes = sym c.is_packet.ensures ∙ c.if-not-is_packet.false in (
+      record { set = cc; links = cc; triggers = cc; fee_ids = cc },
+      list_goes_on turn lists c.from-unsound.ensures c.loop-w-test.true goes,
+    )
 
-pub shape_of-fee_ids : goal.shape_of-fee_ids
-shape_of-fee_ids c = c.loop-out.invariant.fee-ids
-
-pub shape_of-out : goal.shape_of-out
-shape_of-out c = same_size c.loop-out.invariant
-
-pub returns : goal.returns
-returns c = list_full c.loop-out.invariant c.loop-out-test.false
+pub returns-clause-listed : goal.returns-clause-listed
+returns-clause-listed c =
+    let (same, turn) = c.loop-w.invariant in
+    let lent = same_buffer turn in
+    let begun = ap (λ (x : TextWriter). x.buf.ghost_name) c.new-w.ensures in
+    list_full turn c.loop-w.scan refl refl c.loop-w-test.false c.count-2.ensures.0 (search (rules, lent, begun, c.count-2.ensures))
