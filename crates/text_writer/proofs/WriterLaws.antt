@@ -1,13 +1,13 @@
 -- Laws of a writer: what is written one after the other stands in a row.
-use Rattle.std.specs.Prelude.{ℕ, ◌+◌, min, ◌<◌, ◌^◌, ◌≡◌, refl, List, [], ◌++◌, length}
+use Rattle.std.specs.Prelude.{ℕ, ◌<◌, ◌^◌, ◌≡◌, refl, List, ◌++◌, length}
 use Rattle.std.proofs.Common.{ap, ◌∙◌, arith}
 use Rattle.std.proofs.lemmas.List.Edits.{sets}
 use Rattle.std.proofs.Math.Seq.{length-sets}
-use denote.Ref.{MutBor, at_last}
-use Rattle.text.specs.Put.{Put, last_place}
+use denote.Ref.{at_last}
+use Rattle.text.specs.Put.{Put}
 use Rattle.text.specs.PutLaws.{and_then}
 use Rattle.text_writer.specs.declared.TextWriter.{TextWriter}
-use Rattle.text_writer.specs.Writer.{begun, extended}
+use Rattle.text_writer.specs.Writer.{extended}
 
 -- what a writer puts that is extended by a text
 pub puts : (w : TextWriter) (t : List ℕ) → length w.buf.now < 2 ^ 64 → Put w.buf.now w.count t (extended w t).buf.now (extended w t).count
@@ -19,12 +19,6 @@ extends w {t} {m} {j} p =
     ap (λ (l : List ℕ). record { buf = at_last w.buf l; count = j }) p.stored
     ∙ ap (λ (n : ℕ). record { buf = at_last w.buf (sets w.buf.now w.count t); count = n }) p.next
 
--- no text changes nothing
-pub extended_nothing : (w : TextWriter) → w.count < 2 ^ 64 → w ≡ extended w []
-extended_nothing w fits =
-    let same : w.count ≡ min (w.count + 0) last_place = omega arith in
-    ap (λ (n : ℕ). record { buf = w.buf; count = n }) same
-
 -- one text, then another: both in a row
 pub extended_append : (w : TextWriter) (t u : List ℕ) → length w.buf.now < 2 ^ 64 → extended (extended w t) u ≡ extended w (t ++ u)
 extended_append w t u room =
@@ -34,10 +28,3 @@ extended_append w t u room =
 pub extended_then : (v w : TextWriter) {x : TextWriter} (t u : List ℕ) → length v.buf.now < 2 ^ 64 → w ≡ extended v t → x ≡ extended w u
     → x ≡ extended v (t ++ u)
 extended_then v w t u room e f = f ∙ ap (λ (y : TextWriter). extended y u) e ∙ extended_append v t u room
-
--- what a writer has put once it is extended by a text
-pub wrote : {b : MutBor (List ℕ)} {n : ℕ} {t : List ℕ} {w x : TextWriter} → w ≡ begun b n → x ≡ extended w t → length b.now < 2 ^ 64
-    → Put b.now n t x.buf.now x.count
-wrote {b} {n} {t} e f room =
-    let is = f ∙ ap (λ (y : TextWriter). extended y t) e in
-    record { room = room; stored = ap (λ (y : TextWriter). y.buf.now) is; next = ap (λ (y : TextWriter). y.count) is }
