@@ -10,7 +10,7 @@ use Rattle.doors_scan_structs.specs.declared.PlainState.{PlainState}
 use Rattle.doors_verdict.specs.Plain.{validator_of}
 use Rattle.doors_verdict.specs.PlainLaws.{validator_again}
 use Rattle.doors_verdict.specs.declared.plain.PlainValidator.{PlainValidator}
-use Rattle.doors_list.specs.Doors.{Left, left_by, listed_through}
+use Rattle.doors_list.specs.Doors.{left_by, listed_through}
 use Rattle.doors_list.specs.ReplyLaws.{known_kind}
 
 -- A call with what came back goes on from the state and the validator that the call before left.

@@ -1,15 +1,18 @@
 -- The reply of a listing says why it stopped.
-use Rattle.std.specs.Prelude.{ℕ, ◌≤◌, false, [], ◌≡◌, refl, eqb}
+use Rattle.std.specs.Prelude.{ℕ, ◌≤◌, false, [], ◌≡◌, refl, eqb, Result, Ok, Err}
 use Rattle.std.proofs.lemmas.Bool.{false≢true}
 use Rattle.std.proofs.Common.{sym, arith}
 use Rattle.basis.specs.Pick.{pick}
 use Rattle.basis.specs.Refusals.{gives, refuses}
 use Rattle.scan_cdp.specs.Answers.{handed, load_answer, passed, wants}
+use Rattle.scan_cdp.specs.declared.LoadCdp.{LoadCdp}
 use Rattle.scan_cdp.specs.declared.LoadCdp.TheVariants as Loads
+use Rattle.scan_cdp.specs.declared.Refusal.{Refusal}
 use Rattle.scan_cdp.specs.declared.Refusal.TheVariants.{End, FeeIdsFull, MemorySize, OffsetToNext, Unusable}
-use Rattle.listing_lines.specs.Lines.{room}
+use Rattle.text.specs.declared.TooShort.{TooShort}
 use Rattle.listing_batch.specs.Batches.{Stopped, answered, full, is_packet, stop_of, buffer_too_short}
 use Rattle.listing_batch.specs.JoinLaws.{Known}
+use Rattle.listing_batch.specs.declared.Batch.{Batch}
 use Rattle.listing_batch.specs.declared.Stop.{Stop}
 use Rattle.listing_batch.specs.declared.Stop.TheVariants as Why
 use Rattle.doors_scan_reply.specs.ReplyLaws.{read_answer}
@@ -22,24 +25,39 @@ abbrev pub read_stop : PlainAnswer → ℕ → Stopped
 read_stop n length =
     pick (eqb n.kind kind_full) full (pick (eqb n.refusal 7) (buffer_too_short length) (answered (read_answer n [])))
 
+-- Why the code's listing stopped, and the length that it tells.
+abbrev pub stopped_as : Result Batch TooShort → Stopped
+stopped_as (Ok b) = stop_of b.stop
+stopped_as (Err e) = buffer_too_short e.needed
+
+abbrev pub length_told : Result Batch TooShort → ℕ
+length_told (Ok b) = b.length
+length_told (Err e) = e.needed
+
 -- No packet stops a listing.
 abbrev pub NoPacket : Stop → Type 0
 NoPacket Why.Full = Unit
-NoPacket Why.TooShort = Unit
 NoPacket (Why.Answered a) = is_packet (load_answer a) ≡ false
 
--- Whatever stops a listing can be read back, where the length needed stands beside refusal 7.
-pub stop_again : (why : Stop) (length : ℕ) → NoPacket why → (why ≡ Why.TooShort → length ≡ room)
-    → read_stop (plain_stop (stop_of why)) length ≡ stop_of why
-stop_again Why.Full length none needed = refl
-stop_again Why.TooShort length none needed = λ i. buffer_too_short (needed refl i)
-stop_again (Why.Answered (Loads.Packet packet)) length none needed = absurd (false≢true (sym none))
-stop_again (Why.Answered (Loads.Want place size)) length none needed = refl
-stop_again (Why.Answered (Loads.Refused End)) length none needed = refl
-stop_again (Why.Answered (Loads.Refused (OffsetToNext distance position))) length none needed = refl
-stop_again (Why.Answered (Loads.Refused MemorySize)) length none needed = refl
-stop_again (Why.Answered (Loads.Refused FeeIdsFull)) length none needed = refl
-stop_again (Why.Answered (Loads.Refused Unusable)) length none needed = refl
+load_again : (a : Result LoadCdp Refusal) (length : ℕ) → is_packet (load_answer a) ≡ false
+    → read_stop (plain_stop (answered (load_answer a))) length ≡ answered (load_answer a)
+load_again (Ok (Loads.Packet packet)) length none = absurd (false≢true (sym none))
+load_again (Ok (Loads.Want place size)) length none = refl
+load_again (Err End) length none = refl
+load_again (Err (OffsetToNext distance position)) length none = refl
+load_again (Err MemorySize) length none = refl
+load_again (Err FeeIdsFull) length none = refl
+load_again (Err Unusable) length none = refl
+
+batch_again : (why : Stop) (length : ℕ) → NoPacket why → read_stop (plain_stop (stop_of why)) length ≡ stop_of why
+batch_again Why.Full length none = refl
+batch_again (Why.Answered a) length none = load_again a length none
+
+-- Whatever stops a listing can be read back, by the length that stands beside it.
+pub stop_again : (r : Result Batch TooShort) → ((b : Batch) → r ≡ Ok b → NoPacket b.stop)
+    → read_stop (plain_stop (stopped_as r)) (length_told r) ≡ stopped_as r
+stop_again (Ok b) none = batch_again b.stop b.length (none b refl)
+stop_again (Err e) none = refl
 
 -- A listing stops with a want, with a refusal, or for room.
 pub known_kind : (why : Stopped) → Known why → kind_want ≤ (plain_stop why).kind

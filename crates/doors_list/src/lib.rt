@@ -4,24 +4,21 @@
 ghost use Rattle.std.specs.Prelude.{◌≡◌};
 ghost use Rattle.listing_batch.specs.Batches.{stop_of};
 ghost use Rattle.doors_list.specs.Doors.{left, listed_through};
-ghost use Rattle.doors_list.specs.Replies.{listed_with, plain_stop};
+ghost use Rattle.doors_list.specs.Replies.{plain_stop};
 
-use doors_header_structs::plain::{BUFFER_TOO_SHORT, NO_REFUSAL};
-use doors_scan_reply::{PlainAnswer, plain_answer, refused};
-use doors_scan_structs::{PlainSettings, PlainState, plain_state, progress_of, settings_of};
-use doors_verdict::plain::{PlainValidator, plain_validator, validator_of};
-use listing_batch::Stop;
-use scan_cdp::{BytePlace, Progress};
+use doors_header_structs::plain::BUFFER_TOO_SHORT;
+use doors_scan_reply::{Kind, PlainAnswer};
+use doors_scan_structs::{PlainSettings, PlainState};
+use doors_verdict::plain::PlainValidator;
+use listing_batch::{Stop, list_loads};
+use scan_cdp::{BytePlace, Progress, Scan, Settings, Window};
 use trigger_stats::COUNTERS;
 use validators::RdhCruSanityValidator;
-
-// The kind of an answer that only a listing has: the buffer may have no room for the next packet's lines.
-const FULL: u32 = 4;
 
 // A listing, as far as it went: why it stopped, what to go on with, how many bytes were written (or are needed, with refusal 7), and how many
 // of the packets are not sound.
 #[repr(C)]
-#[derive(Clone, Copy)]
+#[derive(Clone, Copy, Debug, PartialEq, Eq)]
 pub struct PlainListed {
     pub answer: PlainAnswer,
     pub state: PlainState,
@@ -31,6 +28,7 @@ pub struct PlainListed {
 }
 
 // Puts the lines of successive loads at the start of `out`.
+#[tactic(auto, unfolding(crate::specs::Doors::listed_through))]
 pub fn kesarimbu_list(
     settings: PlainSettings,
     state: PlainState,
@@ -47,57 +45,45 @@ pub fn kesarimbu_list(
         ≡ listed_through settings state validator links.old triggers.old fee_ids.old window.now
         first last out.old }
 {
-    let batch = listing_batch::list_loads(
-        settings_of(settings),
-        progress_of(state),
+    let mut scan = Scan {
+        set: Settings::from(settings),
+        progress: Progress::from(state),
         links,
         triggers,
-        validator_of(validator),
         fee_ids,
-        window,
-        BytePlace(first),
+    };
+    let mut validator = RdhCruSanityValidator::from(validator);
+    let window = Window {
+        bytes: window,
+        first: BytePlace(first),
         last,
-        out,
-    );
-    let stop = batch.stop;
-    let progress = batch.progress;
-    plain_listed(stop, progress, batch.validator, batch.length, batch.unsound)
-}
-
-fn plain_listed(
-    stop: Stop,
-    progress: Progress,
-    validator: RdhCruSanityValidator,
-    length: usize,
-    unsound: u64,
-) -> PlainListed
-    ensures { result ≡ listed_with (stop_of stop) progress validator length unsound }
-{
+    };
+    let (answer, length, unsound) = match list_loads(&mut scan, &mut validator, window, out) {
+        Ok(batch) => (plain_stop(batch.stop), batch.length, batch.unsound),
+        Err(short) => (
+            PlainAnswer::refused(BUFFER_TOO_SHORT, 0, 0),
+            short.needed,
+            0,
+        ),
+    };
     PlainListed {
-        answer: plain_stop(stop),
-        state: plain_state(progress),
-        validator: plain_validator(validator),
+        answer,
+        state: PlainState::from(scan.progress),
+        validator: PlainValidator::from(validator),
         length,
         unsound,
     }
 }
 
+// Why no further load was made.
 fn plain_stop(stop: Stop) -> PlainAnswer
     ensures { result ≡ plain_stop (stop_of stop) }
 {
     match stop {
         Stop::Full => PlainAnswer {
-            position: 0,
-            own: 0,
-            want_place: 0,
-            want_size: 0,
-            payload_start: 0,
-            payload_length: 0,
-            kind: FULL,
-            refusal: NO_REFUSAL,
-            distance: 0,
+            kind: Kind::Full as u32,
+            ..PlainAnswer::default()
         },
-        Stop::TooShort => refused(BUFFER_TOO_SHORT, 0, 0),
-        Stop::Answered(answer) => plain_answer(answer),
+        Stop::Answered(answer) => PlainAnswer::from(answer.map(Some)),
     }
 }
