@@ -134,6 +134,6 @@ fn ends(why: Refusal, six: bool) -> bool
 fn unusable(scan: &Scan) -> bool
     ensures { result ≡ unusable (state_of scan.now) scan.now.fee_ids.now }
 {
-    scan_window::numbers_unusable(scan)
+    scan_window::numbers_unusable(scan.progress, scan.links.len(), scan.fee_ids.len())
         | stats::has_link_twice(scan.links, scan.progress.links_used)
 }

@@ -28,13 +28,14 @@ pub fn take_step(scan: &mut Scan, window: Window) -> Examination
         scan.old.set (state_of scan.old) scan.old.fee_ids.now window.entry.bytes.now window.entry.first.0 window.entry.last }
     ensures same { SameScan scan.old scan.new }
 {
-    if numbers_unusable(scan) {
+    if numbers_unusable(scan.progress, scan.links.len(), scan.fee_ids.len()) {
         return Examination::unmarked(Err(Refusal::Unusable));
     }
-    if outside(scan.progress.place, window) {
+    if outside(scan.progress.place, window.first, window.bytes.len()) {
         return Examination::unmarked(Err(Refusal::Unusable));
     }
-    let start = start_in(scan.progress.place, window);
+    let distance = scan.progress.place.0.saturating_sub(window.first.0);
+    let start = start_in(distance, window.bytes.len());
     let rest = &window.bytes[start..];
     let Ok(rdh) = serde_rdh::from_buf(rest) else {
         return lacking(

@@ -1,5 +1,5 @@
 -- Bytes that are too few to decode, or a header.
-use Rattle.std.proofs.Common.{◌≡◌, ℕ, ◌-◌, List, [], length, take, drop, sym, ap, refl, ◌∙◌, arith, length-drop, take_all, Result}
+use Rattle.std.proofs.Common.{◌≡◌, ℕ, ◌-◌, List, [], length, min, take, drop, sym, ap, refl, ◌∙◌, arith, length-drop, take_all, Result}
 use Rattle.rdh.specs.declared.rdh_cru.RdhCru.{RdhCru}
 use Rattle.rdh.specs.declared.rdh_cru.TooFewBytes.{TooFewBytes}
 use Rattle.serde_rdh.specs.Layout.{decode}
@@ -24,12 +24,13 @@ returns-in_default-clause-examined c =
     let window = c.args.window in
     let w = window.bytes.now in
     let start = c.start_in-start in
+    let there = start.ensures ∙ ap (λ (n : ℕ). min n (length w)) c.saturating_sub-distance.ensures in
     let few =
     sym (ap (λ (r : Result RdhCru TooFewBytes). decode_answer r) c.in_default.is) ∙ c.from_buf.ensures
     ∙ ap decode (to_the_end w start.result) in
     c.lacking.ensures.examined
     ∙ stepped_lacking c.args.scan.now w window.first.0 window.last (sym c.numbers_unusable.ensures ∙ c.if-numbers_unusable.false)
-    (sym c.outside.ensures ∙ c.if-outside.false) start.result start.ensures 9 [] few
+    (sym c.outside.ensures ∙ c.if-outside.false) start.result there 9 [] few
 
 pub step-requires : goal.step-requires
 step-requires c =
@@ -47,7 +48,7 @@ step-requires c =
     record {
       place = numbers.place;
       position = numbers.position;
-      inside = omega (arith, left, within_it.ends, start.ensures, length-drop start.result w);
+      inside = omega (arith, left, within_it.ends, start.ensures, c.saturating_sub-distance.ensures, length-drop start.result w);
       whole = omega (arith, left, whole);
     }
 
@@ -56,9 +57,10 @@ returns-clause-examined c =
     let window = c.args.window in
     let w = window.bytes.now in
     let start = c.start_in-start in
+    let there = start.ensures ∙ ap (λ (n : ℕ). min n (length w)) c.saturating_sub-distance.ensures in
     let header =
     sym (ap (λ (r : Result RdhCru TooFewBytes). decode_answer r) c.in-Ok.is) ∙ c.from_buf.ensures
     ∙ ap decode (to_the_end w start.result) in
     stepped_decoded c.args.scan.now w window.first.0 window.last (sym c.numbers_unusable.ensures ∙ c.if-numbers_unusable.false)
-    (sym c.outside.ensures ∙ c.if-outside.false) start.result start.ensures _ refl (ap (λ (l : List ℕ). length l) (to_the_end w start.result)) header
+    (sym c.outside.ensures ∙ c.if-outside.false) start.result there _ refl (ap (λ (l : List ℕ). length l) (to_the_end w start.result)) header
     c.step.ensures.examined
