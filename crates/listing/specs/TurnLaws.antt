@@ -1,30 +1,23 @@
--- Laws of the listing's turns.
-use Rattle.std.specs.Prelude.{ℕ, ◌+◌, ◌≤◌, ◌≡◌, List, length}
-use Rattle.std.proofs.Common.{subst, arith}
-use Rattle.text.specs.PutLaws.{same_length}
-use Rattle.validators.specs.declared.RdhCruSanityValidator.{RdhCruSanityValidator}
-use Rattle.scan_cdp.specs.declared.Part.{Part}
-use Rattle.scan_cdp.specs.Loads.{Loaded}
-use Rattle.listing_window.specs.declared.Held.{Held}
+-- A law of the listing's turns.
+use Rattle.std.specs.Prelude.{ℕ, ◌+◌, ◌≤◌, ◌≡◌, List, [], ◌∷◌, length}
+use Rattle.std.proofs.Common.{ap, ◌∙◌, arith}
+use Rattle.std.proofs.Math.Seq.{length-sets}
+use Rattle.text_writer.specs.declared.TextWriter.{TextWriter}
 use Rattle.listing_lines.specs.Lines.{room}
-use Rattle.listing_load.specs.LoadLines.{Lists}
-use Rattle.listing_load.specs.declared.Listed.{Listed}
-use Rattle.listing.specs.Turns.{HeldIn, RoomIn}
-use Rattle.listing.specs.declared.Next.{Next}
-use Rattle.listing.specs.declared.Next.TheVariants.{Window}
-use Rattle.listing.specs.declared.Room.{Room}
-use Rattle.listing.specs.declared.Room.TheVariants.{At}
+use Rattle.listing_load.specs.LoadLines.{written}
 
--- what is held, where something is
-pub held_there : (l : List ℕ) {h : Held} {r : Next} → r ≡ Window h → HeldIn l r → h.length ≤ length l
-held_there l e p = subst (λ (r : Next). HeldIn l r) e p
+-- The lines of a load end within the buffer.
+pub record Within (u x : TextWriter) : Type 0 where
+  pub count : x.count ≤ length x.buf.now
+  pub same_length : length x.buf.now ≡ length u.buf.now
 
--- the room, where there is some
-pub room_there : (l : List ℕ) {n : ℕ} {r : Room} → r ≡ At n → RoomIn l r → n + room ≤ length l
-room_there l e p = subst (λ (r : Room). RoomIn l r) e p
-
--- the lines of a load end within the buffer
-pub put_within : {l : Loaded Part} {v : RdhCruSanityValidator} {at : ℕ} {r : Listed} (out links triggers fee_ids left : List ℕ)
-    → Lists l v out at r links triggers fee_ids left
-    → at + room ≤ length out → r.at ≤ length left
-put_within out links triggers fee_ids left lists there = omega (arith, lists.lines.next, lists.short, same_length lists.lines)
+pub put_within : (u x : TextWriter) (t : List ℕ) → x ≡ written u t → length t ≤ room → u.count + room ≤ length u.buf.now → Within u x
+put_within u x [] is short there =
+    record {
+      count = omega (arith, ap (λ (y : TextWriter). y.count) is, ap (λ (y : TextWriter). length y.buf.now) is);
+      same_length = ap (λ (y : TextWriter). length y.buf.now) is;
+    }
+put_within u x (b ∷ t) is short there =
+    let size : length x.buf.now ≡ length u.buf.now =
+    ap (λ (y : TextWriter). length y.buf.now) is ∙ length-sets u.buf.now u.count (b ∷ t) in
+    record { count = omega (arith, ap (λ (y : TextWriter). y.count) is, size); same_length = size }
