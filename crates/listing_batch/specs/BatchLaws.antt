@@ -13,7 +13,7 @@ use Rattle.basis.specs.Refusals.{Answer, gives, refuses}
 use Rattle.rdh.specs.declared.rdh_cru.RdhCru.{RdhCru}
 use Rattle.text_writer.specs.Writer.{extended}
 use Rattle.text_writer.specs.declared.TextWriter.{TextWriter}
-use Rattle.text_writer.proofs.WriterLaws.{extended_append, extended_nothing}
+use Rattle.text_writer.proofs.WriterLaws.{extended_append}
 use Rattle.validators.specs.declared.RdhCruSanityValidator.{RdhCruSanityValidator}
 use Rattle.scan_cdp.specs.Answers.{Found, handed, passed, wants}
 use Rattle.scan_cdp.specs.Loads.{Loaded, loaded}
@@ -98,7 +98,7 @@ module _ (set : Settings) (v₀ : RdhCruSanityValidator) (s₀ : State) (fee_ids
         start = start;
         lent = lent;
         room = room;
-        lines = extended_nothing x₀ (omega (arith, start));
+        lines = written_extends x₀ [] (omega (arith, start));
         within = omega arith;
         few = omega arith;
       }
