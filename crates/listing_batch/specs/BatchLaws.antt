@@ -10,7 +10,6 @@ use mir.Val.{bool_byte}
 use Rattle.basis.specs.Pick.{pick}
 use Rattle.basis.specs.PickLaws.{off, on}
 use Rattle.basis.specs.Refusals.{Answer, gives, refuses}
-use Rattle.rdh.specs.declared.rdh_cru.RdhCru.{RdhCru}
 use Rattle.text_writer.specs.Writer.{extended}
 use Rattle.text_writer.specs.declared.TextWriter.{TextWriter}
 use Rattle.text_writer.proofs.WriterLaws.{extended_append}
@@ -23,23 +22,18 @@ use Rattle.scan_cdp.specs.declared.Scan.{Scan}
 use Rattle.scan_cdp.specs.declared.Settings.{Settings}
 use Rattle.scan_cdp.specs.declared.State.{State}
 use Rattle.input_scanner.specs.Replies.{load_of}
-use Rattle.listing_lines.specs.Lines.{line_at, room}
-use Rattle.listing_packet.specs.Packets.{packet_lines}
+use Rattle.listing_lines.specs.Lines.{room}
 use Rattle.listing_load.specs.LoadLines.{Lists, lines_of, unsound_in, validator_of, written}
-use Rattle.listing_load.specs.LoadLinesLaws.{written_extends}
+use Rattle.listing_load.specs.LoadLinesLaws.{line_there, written_extends}
 use Rattle.listing_load.specs.declared.Listed.{Listed}
 use Rattle.listing_batch.specs.Batches.{Batched, Batches, answered, batched, batched_from, unsound_with, is_packet, stop_of, stopped}
 use Rattle.listing_batch.specs.declared.Stop.{Stop}
 use Rattle.listing_batch.specs.declared.Stop.TheVariants as Why
 
--- a packet has a line, which has its end
-line_there : (v : RdhCruSanityValidator) (position : ℕ) (h : RdhCru) → 1 ≤ length (packet_lines v position h)
-unfolding packet_lines line_at
-line_there v position h = simp length-append (omega arith)
-
+-- a packet has a line
 pub packet_there : (v : RdhCruSanityValidator) (a : Answer (Found Part)) (l : Loaded Part) → is_packet a ≡ true → 1 ≤ length (lines_of v a l)
 packet_there v (gives passed) l e = absurd (false≢true e)
-packet_there v (gives (handed p)) l e = line_there v p.own.0 p.header
+packet_there v (gives (handed p)) l e = omega (arith, line_there v p.own.0 p.header)
 packet_there v (gives (wants place size)) l e = absurd (false≢true e)
 packet_there v (refuses number values) l e = absurd (false≢true e)
 

@@ -33,9 +33,9 @@ written_some w [] some = absurd (omega arith)
 written_some w (b ∷ t) some = refl
 
 -- a packet has a line, which has its end
-packet_there : (v : RdhCruSanityValidator) (position : ℕ) (h : RdhCru) → 0 < length (packet_lines v position h)
+pub line_there : (v : RdhCruSanityValidator) (position : ℕ) (h : RdhCru) → 0 < length (packet_lines v position h)
 unfolding packet_lines line_at
-packet_there v position h = simp length-append (omega arith)
+line_there v position h = simp length-append (omega arith)
 
 -- and so have the last lines
 last_there : (counts : Counts) (number : ℕ) → 0 < length (last_lines counts number)
@@ -67,7 +67,7 @@ lists_packet {v = v} {w = w} {r = r} {scan = scan} packet position load is packs
     let lines : packet_lines v position packet.rdh ≡ packet_lines v packet.own.0 packet.rdh =
     ap (λ (n : ℕ). packet_lines v n packet.rdh) own in
     lists (Ok (Loads.Packet packet)) load is packs.validator packs.unsound
-    (packs.lines ∙ ap (extended w) lines ∙ written_some w _ (packet_there v packet.own.0 packet.rdh))
+    (packs.lines ∙ ap (extended w) lines ∙ written_some w _ (line_there v packet.own.0 packet.rdh))
     (omega (arith, ap length lines, packs.short))
 
 -- one that is refused: it has put the last lines
