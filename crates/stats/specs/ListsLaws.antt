@@ -4,7 +4,7 @@ use Rattle.std.proofs.Math.Bool.{and-eq-true_iff}
 use Rattle.std.proofs.Common.{ap, ap₂, sym, ◌∙◌, arith, add-one, lt-ltb, le-ltb, le-leb, ltb-true, length-set, take-suc-set}
 use Rattle.std.proofs.lemmas.Bool.{lt-leb, not-true}
 use Rattle.basis.specs.PickLaws.{on, off}
-use Rattle.stats_search.specs.SearchLaws.{twice_put}
+use Rattle.stats_search.specs.FrontWalkLaws.{twice_put}
 use Rattle.stats.specs.Lists.{full, goes_in, member, places_after, twice, used_after}
 
 -- ---- a number that is met

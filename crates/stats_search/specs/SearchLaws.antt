@@ -1,93 +1,116 @@
--- Laws of what is listed twice, and of a walk from the front that finds it.
-use Rattle.std.specs.Prelude.{ℕ, suc, ◌+◌, ◌<◌, ◌≤◌, min, Bool, true, false, ◌||◌, ◌≡◌, refl, List, [], ◌∷◌, ◌++◌, eqb, length, take, drop, get_or, set, replicate}
-use Rattle.std.proofs.Math.Bool.{or-true, or-false}
-use Rattle.std.proofs.Math.Seq.{take-suc, drop-cons}
-use Rattle.std.proofs.Common.{ap, sym, ◌∙◌, arith, add-one, eq-eqb, ne_eqb, eqb-true, length-set, get_or-set_same, get_or-set_other}
-use Rattle.std.proofs.lemmas.Bool.{eqb-false, or_from, or_parts}
-use Rattle.std.proofs.lemmas.List.{get_or-replicate, take_all, take-append-drop, take_min}
-use Rattle.std.proofs.lemmas.List.Folds.{list_any-append}
+-- Laws of searches: one from the front, and a walk from the back for what is listed twice.
+use Rattle.std.specs.Prelude.{ℕ, zero, suc, ◌+◌, ◌<◌, ◌≤◌, min, Bool, true, false, ◌||◌, ◌≡◌, refl, eqb, length, take, drop, get_or, set, replicate}
+use Rattle.std.proofs.Math.Bool.{or-true}
+use Rattle.std.proofs.Math.Path.{ap, sym}
+use Rattle.std.proofs.Common.{◌∙◌, arith, add-one, eq-eqb, ne_eqb, eqb-true, length-set, drop_of_length-le, drop-cons, get_or-take, get_or-set_same, get_or-set_other}
+use mathlib.Core.List.{List, [], ◌∷◌}
+use Rattle.std.proofs.lemmas.Bool.{eqb-false}
+use Rattle.std.proofs.Math.ListN.{length-take}
+use Rattle.std.proofs.lemmas.List.{get_or-replicate}
 use Rattle.stats_search.specs.Search.{member, twice}
 
--- ---- a number put behind a list
-
--- what a list does not have, it does not have with another number behind it
-member_put : (y x : ℕ) (l : List ℕ) → member y l ≡ false → eqb x y ≡ false → member y (l ++ (x ∷ [])) ≡ false
+-- a search looks at one element, then at the rest
+pub member-at : (x : ℕ) (l : List ℕ) (i : ℕ) → i < length l → member x (drop i l) ≡ (eqb x (get_or l i 0) || member x (drop (suc i) l))
 unfolding member
-member_put y x l absent other =
-    list_any-append (eqb y) l (x ∷ []) ∙ or_from _ _ absent (or_from _ _ (ne_eqb y x (λ same. eqb-false x y other (sym same))) refl)
+member-at x l i h = ap (λ (t : List ℕ). member x t) (drop-cons l i 0 h)
 
--- a list with nothing twice has nothing twice with a new number behind it
-pub twice_put : (x : ℕ) (l : List ℕ) → twice l ≡ false → member x l ≡ false → twice (l ++ (x ∷ [])) ≡ false
-unfolding member twice
-twice_put x [] once absent = refl
-twice_put x (y ∷ l) once absent =
-    let (other, later) = or_parts (eqb x y) (member x l) absent in
-    let (alone, rest) = or_parts (member y l) (twice l) once in
-    or_from _ _ (member_put y x l alone other) (twice_put x l rest later)
+pub twice-at : (l : List ℕ) (i : ℕ) → i < length l → twice (drop i l) ≡ (member (get_or l i 0) (drop (suc i) l) || twice (drop (suc i) l))
+unfolding twice
+twice-at l i h = ap (λ (t : List ℕ). twice t) (drop-cons l i 0 h)
 
--- a number that is listed and stands behind the list too is listed twice
-twice_met : (x : ℕ) (l rest : List ℕ) → member x l ≡ true → twice (l ++ (x ∷ rest)) ≡ true
-unfolding member twice
-twice_met x [] rest met = absurd cc
-twice_met x (y ∷ l) rest met = by_first (twice_met x l rest) (eqb x y) refl
-  where
-    by_first : (member x l ≡ true → twice (l ++ (x ∷ rest)) ≡ true) → (b : Bool) → eqb x y ≡ b → twice (y ∷ (l ++ (x ∷ rest))) ≡ true
-    by_first later true same =
-        ap (λ (b : Bool). b || twice (l ++ (x ∷ rest)))
-        (list_any-append (eqb y) l (x ∷ rest) ∙ ap (λ (b : Bool). member y l || (b || member y rest)) (eq-eqb y x (sym (eqb-true x y same)))
-        ∙ or-true (member y l))
-    by_first later false other =
-        ap (λ (b : Bool). member y (l ++ (x ∷ rest)) || b) (later (ap (λ (b : Bool). b || member x l) (sym other) ∙ met))
-        ∙ or-true (member y (l ++ (x ∷ rest)))
+-- what is listed twice in a part is listed twice
+pub twice-part : (l : List ℕ) (i : ℕ) → twice (drop i l) ≡ true → twice l ≡ true
+unfolding twice
+twice-part l zero e = e
+twice-part [] (suc i) e = e
+twice-part (y ∷ l) (suc i) e = ap (λ (b : Bool). member y l || b) (twice-part l i e) ∙ or-true (member y l)
 
--- ---- a walk from the front
+-- ---- a search through the used part, which has looked at the elements before i
 
--- What the walk knows of the first i elements: none of them is listed twice, and which numbers are among them.
-pub record Walked (l : List ℕ) (i : ℕ) (seen : List Bool) : Type 0 where
-  pub table : length seen ≡ 256
-  pub once : twice (take i l) ≡ false
-  pub listed : (x : ℕ) → x < 256 → get_or seen x false ≡ member x (take i l)
+module _ (x : ℕ) (l : List ℕ) (used i : ℕ) (so_far : member x (take used l) ≡ member x (drop i (take used l))) where
+  within : i < min used (length l) → i < length (take used l)
+  within h = omega (arith, length-take used l)
 
-pub walk_begins : (l : List ℕ) → Walked l 0 (replicate 256 false)
-unfolding twice member
-walk_begins l = record { table = refl; once = refl; listed = λ x below. get_or-replicate 256 x false false below }
+  here : i < min used (length l) → member x (take used l) ≡ (eqb x (get_or l i 0) || member x (drop (suc i) (take used l)))
+  here h =
+      so_far ∙ member-at x (take used l) i (within h)
+      ∙ ap (λ (y : ℕ). eqb x y || member x (drop (suc i) (take used l))) (get_or-take used l i 0 (omega arith))
 
-pub walk_ends : (l : List ℕ) (i : ℕ) (seen : List Bool) → Walked l i seen → length l ≤ i → false ≡ twice l
-walk_ends l i seen walked end = sym walked.once ∙ ap (λ (t : List ℕ). twice t) (take_all i l end)
+  pub found : i < min used (length l) → get_or l i 0 ≡ x → true ≡ member x (take used l)
+  found h e = sym (here h ∙ ap (λ (b : Bool). b || member x (drop (suc i) (take used l))) (eq-eqb x (get_or l i 0) (sym e)))
 
--- the walk goes along the first n elements, which are the used ones
-pub used_part : (links : List ℕ) (used n : ℕ) → n ≡ min used (length links) → twice (take n links) ≡ twice (take used links)
-used_part links used n is = ap (λ (t : List ℕ). twice t) (ap (λ (k : ℕ). take k links) is ∙ take_min used links)
+  pub not_here : i < min used (length l) → (get_or l i 0 ≡ x → ⊥) → member x (take used l) ≡ member x (drop (i + 1) (take used l))
+  not_here h differs =
+      here h ∙ ap (λ (b : Bool). b || member x (drop (suc i) (take used l))) (ne_eqb x (get_or l i 0) (λ e. differs (sym e)))
+      ∙ ap (λ (k : ℕ). member x (drop k (take used l))) (sym (add-one i))
 
--- the walk is at an element, which is below 256
-module _ (l : List ℕ) (i x : ℕ) (seen : List Bool) (walked : Walked l i seen) (inside : i < length l) (is : x ≡ get_or l i 0) (byte : x < 256) where
-  at_element : take (i + 1) l ≡ take i l ++ (x ∷ [])
-  at_element = ap (λ (k : ℕ). take k l) (add-one i) ∙ take-suc l i 0 inside ∙ ap (λ (y : ℕ). take i l ++ (y ∷ [])) (sym is)
-
-  pub walk_finds : get_or seen x false ≡ true → true ≡ twice l
-  walk_finds met =
-      sym (ap (λ (t : List ℕ). twice t)
-      (sym (take-append-drop i l)
-      ∙ ap (λ (t : List ℕ). take i l ++ t) (drop-cons l i 0 inside ∙ ap (λ (y : ℕ). y ∷ drop (suc i) l) (sym is)))
-      ∙ twice_met x (take i l) (drop (suc i) l) (sym (walked.listed x byte) ∙ met))
-
-  pub walk_goes_on : get_or seen x false ≡ false → Walked l (i + 1) (set seen x true)
+  pub not_found : min used (length l) ≤ i → false ≡ member x (take used l)
   unfolding member
-  walk_goes_on new =
+  not_found h =
+      sym (so_far ∙ ap (λ (t : List ℕ). member x t) (drop_of_length-le (take used l) {i = i} (omega (arith, length-take used l))))
+
+-- ---- a walk through the used part from its end, which has come down to the element behind i
+
+-- What the walk knows of the elements from k on: none of them is listed twice, and which numbers are listed.
+pub record Walked (l : List ℕ) (used k : ℕ) (later : List Bool) : Type 0 where
+  pub within : k ≤ min used (length l)
+  pub table : length later ≡ 256
+  pub once : twice (drop k (take used l)) ≡ false
+  pub listed : (x : ℕ) → x < 256 → get_or later x false ≡ member x (drop k (take used l))
+
+pub walk_begins : (l : List ℕ) (used : ℕ) → Walked l used (min used (length l)) (replicate 256 false)
+unfolding twice member
+walk_begins l used =
+    let none = drop_of_length-le (take used l) {i = min used (length l)} (omega (arith, length-take used l)) in
+    record {
+      within = omega arith;
+      table = refl;
+      once = ap (λ (t : List ℕ). twice t) none;
+      listed = λ x below. get_or-replicate 256 x false false below ∙ sym (ap (λ (t : List ℕ). member x t) none);
+    }
+
+module _ (l : List ℕ) (used i : ℕ) (later : List Bool) (walked : Walked l used (suc i) later) where
+  inside : i < length (take used l)
+  inside = omega (arith, walked.within, length-take used l)
+
+  element : get_or (take used l) i 0 ≡ get_or l i 0
+  element = get_or-take used l i 0 (omega (arith, walked.within))
+
+  walked_member : (x : ℕ) → member x (drop i (take used l)) ≡ (eqb x (get_or l i 0) || member x (drop (suc i) (take used l)))
+  walked_member x =
+      member-at x (take used l) i inside ∙ ap (λ (y : ℕ). eqb x y || member x (drop (suc i) (take used l))) element
+
+  pub walk_finds : get_or l i 0 < 256 → get_or later (get_or l i 0) false ≡ true → true ≡ twice (take used l)
+  walk_finds byte e =
+      sym (twice-part (take used l) i
+      (twice-at (take used l) i inside
+      ∙ ap (λ (b : Bool). b || twice (drop (suc i) (take used l)))
+      (ap (λ (y : ℕ). member y (drop (suc i) (take used l))) element ∙ sym (walked.listed (get_or l i 0) byte) ∙ e)))
+
+  pub walk_goes_on : get_or l i 0 < 256 → get_or later (get_or l i 0) false ≡ false → Walked l used i (set later (get_or l i 0) true)
+  walk_goes_on byte e =
       record {
-        table = length-set seen x true ∙ walked.table;
-        once = ap (λ (t : List ℕ). twice t) at_element ∙ twice_put x (take i l) walked.once (sym (walked.listed x byte) ∙ new);
-        listed = λ y below.
-            looked_up y below (eqb y x) refl
-            ∙ sym (ap (λ (t : List ℕ). member y t) at_element ∙ list_any-append (eqb y) (take i l) (x ∷ []));
+        within = omega (arith, walked.within);
+        table = length-set later (get_or l i 0) true ∙ walked.table;
+        once =
+            twice-at (take used l) i inside
+            ∙ ap (λ (b : Bool). b || twice (drop (suc i) (take used l)))
+            (ap (λ (y : ℕ). member y (drop (suc i) (take used l))) element ∙ sym (walked.listed (get_or l i 0) byte) ∙ e)
+            ∙ walked.once;
+        listed = λ x below. looked_up x below (eqb x (get_or l i 0)) refl;
       }
     where
-      looked_up : (y : ℕ) → y < 256 → (b : Bool) → eqb y x ≡ b → get_or (set seen x true) y false ≡ (member y (take i l) || (eqb y x || false))
-      looked_up y below true same =
-          ap (λ (k : ℕ). get_or (set seen x true) k false) (eqb-true y x same)
-          ∙ get_or-set_same seen x true false (omega (arith, walked.table))
-          ∙ sym (ap (λ (b : Bool). member y (take i l) || (b || false)) same ∙ or-true (member y (take i l)))
-      looked_up y below false other =
-          get_or-set_other seen x y true false (eqb-false y x other)
-          ∙ walked.listed y below
-          ∙ sym (ap (λ (b : Bool). member y (take i l) || (b || false)) other ∙ or-false (member y (take i l)))
+      looked_up : (x : ℕ) → x < 256 → (b : Bool) → eqb x (get_or l i 0) ≡ b
+          → get_or (set later (get_or l i 0) true) x false ≡ member x (drop i (take used l))
+      looked_up x below true same =
+          ap (λ (k : ℕ). get_or (set later (get_or l i 0) true) k false) (eqb-true x (get_or l i 0) same)
+          ∙ get_or-set_same later (get_or l i 0) true false (omega (arith, walked.table))
+          ∙ sym (walked_member x ∙ ap (λ (b : Bool). b || member x (drop (suc i) (take used l))) same)
+      looked_up x below false other =
+          get_or-set_other later (get_or l i 0) x true false (eqb-false x (get_or l i 0) other)
+          ∙ walked.listed x below
+          ∙ sym (walked_member x ∙ ap (λ (b : Bool). b || member x (drop (suc i) (take used l))) other)
+
+pub walk_ends : (l : List ℕ) (used k : ℕ) (later : List Bool) → Walked l used k later → k ≤ 0 → false ≡ twice (take used l)
+walk_ends l used zero later walked e = sym walked.once
+walk_ends l used (suc k) later walked e = absurd (omega arith)

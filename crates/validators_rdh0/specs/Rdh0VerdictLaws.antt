@@ -9,10 +9,22 @@ use Rattle.rdh.specs.declared.rdh0.Rdh0.{Rdh0}
 use Rattle.rdh.specs.declared.rdh_cru.RdhCru.{RdhCru}
 use Rattle.sanity.specs.Tests.{Test, all_tests, any_fails, cru_tests, pieces, rdh0_tests, rdh1_tests, rdh2_tests, rdh3_tests, section, sound}
 use Rattle.sanity_words.specs.TestsLaws.{any_of_both}
+use Rattle.sanity.specs.declared.Criteria.{Criteria}
 use Rattle.validators.specs.Verdict as whole
 use Rattle.validators.specs.declared.RdhCruSanityValidator.{RdhCruSanityValidator}
 use Rattle.validators.specs.declared.SanityCheck.{SanityCheck}
 use Rattle.validators_rdh0.specs.Rdh0Verdict.{Checks, criteria_of, settled_by, sound_to, text_of}
+
+-- what the code finds out, as the definition says it
+pub judged : (v : RdhCruSanityValidator) (w : Rdh0) (criteria : Criteria) {fails b : Bool} → criteria ≡ criteria_of v w
+    → fails ≡ any_fails (rdh0_tests criteria w) → not fails ≡ b → sound_to v w ≡ b
+unfolding sound_to
+judged v w criteria its_own is e = sym (ap not is ∙ ap (λ (k : Criteria). not (any_fails (rdh0_tests k w))) its_own) ∙ e
+
+pub named : (v : RdhCruSanityValidator) (w : Rdh0) (criteria : Criteria) → criteria ≡ criteria_of v w
+    → section "RDH0: " (rdh0_tests criteria w) ≡ text_of v w
+unfolding text_of
+named v w criteria its_own = ap (λ (k : Criteria). section "RDH0: " (rdh0_tests k w)) its_own
 
 pub sound_text : (v : RdhCruSanityValidator) (w : Rdh0) → sound_to v w ≡ true → text_of v w ≡ []
 unfolding sound_to text_of

@@ -1,7 +1,7 @@
 -- Each link of the used part is looked up among those before it.
 use Rattle.std.proofs.Common.{ℕ, ◌<◌, List, ◌≡◌, ◌∙◌, arith, length, get_or, take}
 use Rattle.std.proofs.lemmas.List.{get_or-take, length-take}
-use Rattle.stats_search.specs.SearchLaws.{used_part, walk_begins, walk_ends, walk_finds, walk_goes_on}
+use Rattle.stats_search.specs.FrontWalkLaws.{used_part, walk_begins, walk_ends, walk_finds, walk_goes_on}
 use Rattle.stats_search.proofs.has_link_twice.Goals as goal
 
 -- a link of the first n is one of the links, each of which is a byte

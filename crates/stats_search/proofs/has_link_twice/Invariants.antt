@@ -1,4 +1,4 @@
-use Rattle.stats_search.specs.SearchLaws.{Walked}
+use Rattle.stats_search.specs.FrontWalkLaws.{Walked}
 use Rattle.stats_search.proofs.has_link_twice.Given as goal
 
 abbrev pub invariant-loop-link : goal.invariant-loop-link
