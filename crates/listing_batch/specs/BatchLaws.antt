@@ -204,6 +204,10 @@ module _ {set : Settings} {v₀ : RdhCruSanityValidator} {s₀ : State} {fee_ids
     next_there : y.count ≡ length more
     next_there = next_by y more lines_there more_within
 
+    -- there are fewer packets than bytes
+    pub count_fits : bad + k < 2 ^ 64
+    count_fits = omega (arith, here.few, next, roomy, same_size, here.room, one_at_most r.unsound, told)
+
     -- an answer with no packet ends it
     pub list_ends : {at : ℕ} {left : List ℕ} → is_packet got.answer ≡ false → at ≡ y.count → left ≡ y.buf.now
         → Batches all out₀ (record { stop = Why.Answered r.load.answer; length = at; unsound = worse }) scan after left
