@@ -37,15 +37,14 @@ pub fn put_byte(out: &mut [u8], at: usize, b: u8) -> usize
     at.saturating_add(1)
 }
 
-// A byte string.
-#[tactic(auto, using(crate::proofs::Parts::put_part))]
+// A byte string, byte by byte: most are a few bytes long, and a call that copies costs more than these.
 pub fn put_bytes(out: &mut [u8], at: usize, s: &[u8]) -> usize
     ensures { Put out.old at s.now out.new result }
 {
-    let next = at.saturating_add(s.len());
-    let start = at.min(out.len());
-    let stop = next.min(out.len());
-    out[start..stop].copy_from_slice(&s[..stop - start]);
+    let mut next = at;
+    for &b in s {
+        next = put_byte(out, next, b);
+    }
     next
 }
 
