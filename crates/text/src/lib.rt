@@ -33,6 +33,7 @@ pub fn put_byte(out: &mut [u8], at: usize, b: u8) -> usize
 {
     if at < out.len() {
         out[at] = b;
+        return at + 1;
     }
     at.saturating_add(1)
 }
