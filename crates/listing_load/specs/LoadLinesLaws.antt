@@ -59,7 +59,7 @@ lists {l} {v} {w} {r} {scan} {after} {x} a load is validator unsound lines short
       short = omega (arith, ap length same, short);
     }
 
--- one that answers with a packet: it has put the packet's lines with a position, which is the packet's own (S12, P2)
+-- one that answers with a packet: it has written the packet's lines with a position, which is the packet's own (S12, P2)
 pub lists_packet : {l : Loaded Part} {v : RdhCruSanityValidator} {w : TextWriter} {r : Listed} {scan : Scan} {after : RdhCruSanityValidator}
     {x : TextWriter} (packet : Packet) (position : ℕ) → load_of r.load scan ≡ l → r.load.answer ≡ Ok (Loads.Packet packet)
     → Packs v position packet.rdh w after r.unsound x → position ≡ packet.own.0 → Lists l v w r scan after x
@@ -70,7 +70,7 @@ lists_packet {v = v} {w = w} {r = r} {scan = scan} packet position load is packs
     (packs.lines ∙ ap (extended w) lines ∙ written_some w _ (line_there v packet.own.0 packet.rdh))
     (omega (arith, ap length lines, packs.short))
 
--- one that is refused: it has put the last lines
+-- one that is refused: it has written the last lines
 pub lists_refusal : {l : Loaded Part} {v : RdhCruSanityValidator} {w : TextWriter} {r : Listed} {scan : Scan} {after : RdhCruSanityValidator}
     {x : TextWriter} (why : Refusal) → load_of r.load scan ≡ l → r.load.answer ≡ Err why → after ≡ v → r.unsound ≡ false
     → x ≡ extended w (last_lines scan.progress.counts (number_of why)) → Lists l v w r scan after x

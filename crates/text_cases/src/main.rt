@@ -51,8 +51,7 @@ fn put_shown(rt: &impl Print, out: &mut [u8], at: usize, piece: Piece) -> io::Re
 fn case(rt: &impl Print, length: usize, at: usize, piece: Piece) -> io::Result<()> {
     let mut buffer = [b'.'; 32];
     if length <= 32 {
-        let start = 0;
-        put_shown(rt, &mut buffer[start..length], at, piece)?;
+        put_shown(rt, &mut buffer[..length], at, piece)?;
     }
     Ok(())
 }
