@@ -38,13 +38,16 @@ pub fn put_byte(out: &mut [u8], at: usize, b: u8) -> usize
     at.saturating_add(1)
 }
 
-// A byte string, byte by byte: most are a few bytes long, and a call that copies costs more than these.
+// A byte string, byte by byte and by a counted place: most are a few bytes long, and both a call that copies and an iterator cost more than these.
 pub fn put_bytes(out: &mut [u8], at: usize, s: &[u8]) -> usize
     ensures { Put out.old at s.now out.new result }
 {
     let mut next = at;
-    for &b in s {
+    let mut i = 0;
+    while i < s.len() {
+        let b = s[i];
         next = put_byte(out, next, b);
+        i += 1;
     }
     next
 }

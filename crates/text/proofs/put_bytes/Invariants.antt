@@ -1,7 +1,10 @@
--- After some turns the first bytes have been put; each turn puts the next one behind them.
-use Rattle.std.proofs.Common.{take}
+use Prim.Native.Nat.{◌≤◌, ◌-◌}
+use lib.ListN.{length, take}
 use Rattle.text.specs.Put.{Put}
 use Rattle.text.proofs.put_bytes.Given as goal
 
-abbrev pub invariant-loop-b : goal.invariant-loop-b
-invariant-loop-b l = Put l.fn.out l.fn.at (take l.b-index l.fn.s) l.out l.next
+abbrev pub invariant-loop-i : goal.invariant-loop-i
+invariant-loop-i l = (l.i ≤ length l.s) × Put l.initial.out l.at (take l.i l.s) l.out l.next
+
+abbrev pub decreases-loop-i : goal.decreases-loop-i
+decreases-loop-i l = length l.s - l.i
