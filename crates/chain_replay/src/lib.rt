@@ -10,7 +10,7 @@ use chain_replay_calls::{Asked, Called};
 use scan_cdp::Scan;
 
 // The last reply, if a call was made, and how many were.
-#[derive(Clone, Copy)]
+#[derive(Clone, Copy, Debug, PartialEq, Eq)]
 pub struct Replayed {
     pub last: Option<Called>,
     pub made: usize,

@@ -29,14 +29,14 @@ pub struct Asked {
 }
 
 // What a call answered, with its marks.
-#[derive(Clone, Copy)]
+#[derive(Clone, Copy, Debug, PartialEq, Eq)]
 pub enum Told {
     Examination(Result<Option<LoadCdp>, Refusal>, Marks),
     Load(Result<LoadCdp, Refusal>, LoadMarks),
 }
 
 // What a call replied, the part of the recording that was its window, and whether the reply ends the chain. What it leaves is in the scan.
-#[derive(Clone, Copy)]
+#[derive(Clone, Copy, Debug, PartialEq, Eq)]
 pub struct Called {
     pub told: Told,
     pub window: Part,

@@ -6,7 +6,7 @@ use std::io;
 use text_writer::TextWriter;
 
 // What is put: a byte, a byte string, a number of blanks, a number, alone or with the width that it is padded to, or a position.
-#[derive(Clone, Copy)]
+#[derive(Clone, Copy, Debug, PartialEq, Eq)]
 enum Piece<'a> {
     Byte(u8),
     Bytes(&'a [u8]),
