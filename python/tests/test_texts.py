@@ -19,11 +19,11 @@ TEXTS = {
     "DecimalRight": lambda n, width: str(n).rjust(width),
 }
 NUMBER = re.compile(r"0x[0-9a-f]+|[0-9]+|b'.'")
+STRING = re.compile(r'b"([^"]*)"')
 CALL = re.compile(
     r"""cases_show::text\(rt, b"(?P<heading>[^"\[\]]+)\\n"\)"""
     r"""|\b(?P<just>just)\(rt, (?P<room>\d+), Piece::(?P<number>\w+)\((?P<value>[^)]*)\)"""
     r"""|\bcase\(\s*rt,\s*(?P<length>\d+),\s*(?P<at>\d+),\s*Piece::(?P<piece>\w+)\((?P<values>[^)]*)\)"""
-    r"""|\bstring\(rt, (?P<buffer>\d+), (?P<place>\d+), b"(?P<text>[^"]*)"\)"""
 )
 
 
@@ -52,9 +52,11 @@ def lines_of(call: re.Match) -> list[str]:
     if call["just"]:
         room = int(call["room"])
         return [piece_shown(length, 0, call["number"], numbers(call["value"])) for length in (room, room - 1)]
-    if call["piece"]:
-        return [piece_shown(int(call["length"]), int(call["at"]), call["piece"], numbers(call["values"]))]
-    return [shown(int(call["buffer"]), int(call["place"]), call["text"], len(call["text"]))]
+    length, at = int(call["length"]), int(call["at"])
+    if call["piece"] == "Bytes":
+        text = STRING.fullmatch(call["values"])[1]
+        return [shown(length, at, text, len(text))]
+    return [piece_shown(length, at, call["piece"], numbers(call["values"]))]
 
 
 class TextCases(unittest.TestCase):
