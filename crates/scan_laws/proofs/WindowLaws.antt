@@ -1,6 +1,6 @@
 -- Laws of an examination: which of its cases a window meets, and that the part of the window that is handed out holds the payload.
 use Rattle.std.specs.Prelude.{ℕ, ◌+◌, ◌-◌, ◌≤◌, ◌<◌, min, Bool, true, false, not, ◌||◌, ◌&&◌, ◌≡◌, refl, List, [], ltb, take, drop}
-use Rattle.std.proofs.lemmas.List.{drop_min}
+use Rattle.std.proofs.lemmas.List.{drop_min, take_min}
 use Rattle.std.proofs.Common.{ap, ◌∙◌, arith, lt-ltb, le-ltb, ltb-false, length-take, length-drop}
 use Rattle.std.proofs.Math.ListN.{length}
 use Rattle.basis.specs.Pick.{pick}
@@ -11,7 +11,8 @@ use Rattle.serde_rdh.specs.Layout.{decoded}
 use Rattle.scan_cdp.specs.Answers.{wants}
 use Rattle.scan_cdp.specs.Steps.{answer_in, cut, ended, entry_at, payload_of, step, step_unless, unchanged, unusable}
 use Rattle.scan_cdp.specs.Outcomes.{payload_size}
-use Rattle.scan_cdp.specs.Windows.{examined, examined_unless, located, outside, part_at, placed, reply_for, shown, wanting}
+use Rattle.scan_cdp.specs.Windows.{bytes_at, examined, examined_unless, located, outside, part_at, placed, reply_for, shown, wanting}
+use Rattle.scan_cdp.specs.declared.Part.{Part}
 use Rattle.scan_cdp.specs.declared.Position.{Position}
 use Rattle.scan_cdp.specs.declared.Settings.{Settings}
 use Rattle.scan_cdp.specs.declared.State.{State}
@@ -129,3 +130,21 @@ module _ (set : Settings) (s : State) (fee_ids w : List ℕ) (first : ℕ) (last
 -- What a window shows of the recording from a place on that is so far behind its first one.
 pub shown_within : (place first : ℕ) (w : List ℕ) (start : ℕ) → start ≡ min (place - first) (length w) → drop start w ≡ shown place first w
 shown_within place first w start e = ap (λ (i : ℕ). drop i w) e ∙ drop_min (place - first) w
+
+-- ---- the bytes of a part
+
+pub fitting : (n : ℕ) (l : List ℕ) → take (min n (length l)) l ≡ take n l
+fitting n l = take_min n l
+
+dropping : (n : ℕ) (l : List ℕ) → drop (min n (length l)) l ≡ drop n l
+dropping n l = drop_min n l
+
+-- A part that reaches beyond the window has the bytes that the window has of it.
+pub bytes_within : (w : List ℕ) (part : Part) (start n : ℕ) → start ≡ min part.start (length w)
+    → n ≡ min part.length (length w - start) → take (start + n - start) (drop start w) ≡ bytes_at w part
+unfolding bytes_at
+bytes_within w part start n begins size =
+    let k = part.length in
+    let bytes : drop start w ≡ drop part.start w = ap (λ (i : ℕ). drop i w) begins ∙ dropping part.start w in
+    let taken : start + n - start ≡ min k (length (drop start w)) = omega (arith, size, length-drop start w) in
+    ap (λ (i : ℕ). take i (drop start w)) taken ∙ fitting k (drop start w) ∙ ap (λ (l : List ℕ). take k l) bytes
