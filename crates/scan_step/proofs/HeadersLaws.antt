@@ -1,5 +1,5 @@
 -- Laws of what is replied for a header, and that the replies are those of an examination.
-use Rattle.std.specs.Prelude.{◌≡◌, ℕ, ◌+◌, ◌-◌, ◌<◌, ◌≤◌, min, Bool, true, false, not, ◌&&◌, List, length, drop, ℤ}
+use Rattle.std.specs.Prelude.{◌≡◌, ℕ, ◌+◌, ◌-◌, ◌<◌, ◌≤◌, min, Bool, true, false, not, ◌&&◌, ◌||◌, List, [], length, drop, ℤ}
 use Rattle.std.proofs.Math.Path.{ap, sym}
 use Rattle.std.proofs.Common.{subst, ◌∙◌, arith, ltb-false, length-drop}
 use Rattle.basis.specs.PickLaws.{neither, on, off}
@@ -8,11 +8,12 @@ use Rattle.serde_rdh.specs.Layout.{decode, decoded}
 use Rattle.serde_rdh.proofs.LayoutLaws.{decode-given, decode-refused}
 use Rattle.scan_cdp.specs.Outcomes.{header_fee_id, payload_size, header_trigger_type}
 use Rattle.scan_cdp.specs.Steps.{Entry, cut, entry_of, limit, lists, marks_of, numbers_unusable, outcome_in, places_listed, progress_after, triggers_after, used_listed, with_lent}
+use Rattle.scan_cdp.specs.Steps.{unchanged}
 use Rattle.scan_cdp.specs.Windows.{examined_unless, located, outside, reply_for, shown, wanting}
 use Rattle.scan_cdp.specs.declared.Outcome.{Outcome}
 use Rattle.scan_cdp.specs.declared.Part.{Part}
 use Rattle.scan_cdp.specs.declared.Progress.{Progress}
-use Rattle.scan_laws.proofs.WindowLaws.{shown_within, unless_header, unless_short}
+use Rattle.scan_laws.proofs.WindowLaws.{shown_within, unless_6, unless_header, unless_short}
 use Rattle.scan_cdp.specs.Scans.{state_of}
 use Rattle.scan_cdp.specs.declared.Scan.{Scan}
 use Rattle.scan_cdp.specs.declared.State.{State}
@@ -124,3 +125,7 @@ module _ (s : Scan) (w : List ℕ) (first : ℕ) (last : Bool) where
         ∙ (λ i. reply_for last (state_of s) s.fee_ids.now (found i) (begin i)
         (entry_of set (outcome_in set s.progress s.fee_ids.now (found i)) (state_of s) s.fee_ids.now (found i) rest (end i)))
         ∙ sym (unless_header six set (state_of s) s.fee_ids.now w first last usable in_window (subst (λ (l : List ℕ). 64 ≤ length l) here long))
+
+  -- where refusal 6 is due, by the numbers or by the window
+  pub stepped_refused : (six || outside s.progress.place.0 first (length w)) ≡ true → whole ≡ unchanged (state_of s) s.fee_ids.now (refuses 6 [])
+  stepped_refused = unless_6 six s.set (state_of s) s.fee_ids.now w first last
