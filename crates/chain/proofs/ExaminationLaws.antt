@@ -4,7 +4,7 @@ use Rattle.std.proofs.lemmas.List.{nil_from_length}
 use Rattle.std.proofs.Math.Bool.{not}
 use Rattle.std.proofs.Math.Path.{ap, sym}
 use Rattle.std.proofs.Common.{subst, ◌∙◌, arith, length-take, drop-drop}
-use mathlib.Core.List.{List, []}
+use mathlib.Core.List.{List, [], ◌∷◌}
 use borrow.Author.Tests.{eqb-true, le-ltb, lt-ltb, ltb-false}
 use Rattle.std.proofs.Math.ListN.{length}
 use Rattle.basis.specs.Pick.{pick}
@@ -225,3 +225,9 @@ module _ (recording : List ℕ) (set : Settings) (k : Kept) (w : Window) (of : W
   unfolding entry_of marks_of
   examination_follows =
       examined_cases set k.state k.fee_ids w.bytes w.first w.last Follows by_six short_more short_last long_wanted long_found
+
+-- ---- a list of length 0
+
+no_bytes : (l : List ℕ) → length l ≡ 0 → [] ≡ l
+no_bytes [] e = refl
+no_bytes (x ∷ l) e = absurd (omega (arith, e))

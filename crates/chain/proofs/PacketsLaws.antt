@@ -132,3 +132,8 @@ pub reaches_end : ReachesEnd
 reaches_end recording set start calls windows enough free_all =
     along_ends set start calls (chain recording set start) enough
     (ap none_held (sym (calls_follow recording set start calls windows)) ∙ free_all)
+
+-- an allowance of no entries is met by none
+none_left : (es : List (Entry (List ℕ))) → length es ≤ 0 → es ≡ []
+none_left [] few = refl
+none_left (e ∷ es) few = absurd (omega (arith, few))
