@@ -1,7 +1,7 @@
 -- Laws of one call: it lends a window of the recording, which is the one that is asked for, and replies what it tells.
-use Rattle.std.specs.Prelude.{ℕ, zero, suc, ◌+◌, Bool, true, false, ◌&&◌, ◌≡◌, refl, List, [], ◌∷◌, leb, length, take, drop}
-use Rattle.std.proofs.lemmas.Bool.{false≢true}
-use Rattle.std.proofs.Common.{ap, ◌∙◌, leb-true}
+use Rattle.std.specs.Prelude.{ℕ, zero, suc, ◌+◌, ◌-◌, ◌≤◌, ◌<◌, Bool, true, false, ◌&&◌, ◌≡◌, refl, List, [], ◌∷◌, leb, length, take, drop}
+use Rattle.std.proofs.lemmas.Bool.{false≢true, lt-leb}
+use Rattle.std.proofs.Common.{ap, sym, ◌∙◌, arith, le-leb, leb-false, leb-true}
 use Rattle.scan_cdp.specs.Answers.{examined_answer, load_answer}
 use Rattle.scan_cdp.specs.Steps.{unusable}
 use Rattle.scan_cdp.specs.Windows.{bytes_at}
@@ -68,3 +68,29 @@ stands_told w k (Told.Load a marks) r e =
       ends = ends_read w (load_answer a) (unusable k.state k.fee_ids) i;
     })
     ∙ ap stand_by e
+
+-- ---- where a window ends, and lists of replies
+
+-- Whether a window reaches the end, with its size taken from the whole.
+pub last_all : (last : Bool) (whole first size : ℕ) → whole ≤ size → last ≡ (last && leb whole (first + size))
+last_all true whole first size long = sym (le-leb whole (first + size) (omega (arith, long)))
+last_all false whole first size long = refl
+
+pub last_rest : (last : Bool) (whole first size : ℕ) → size < whole → (last && leb (whole - size) first) ≡ (last && leb whole (first + size))
+last_rest last whole first size short = ap (λ (b : Bool). last && b) (same (leb (whole - size) first) refl)
+  where
+    same : (b : Bool) → leb (whole - size) first ≡ b → b ≡ leb whole (first + size)
+    same true e = sym (le-leb whole (first + size) (omega (arith, leb-true (whole - size) first e, short)))
+    same false e = sym (lt-leb whole (first + size) (omega (arith, leb-false (whole - size) first e, short)))
+
+-- Lists of one reply that are the same have the same reply.
+only : (x y : Reply) → x ∷ [] ≡ y ∷ [] → x ≡ y
+only x y e = ap (first_of x) e
+  where
+    first_of : Reply → List Reply → Reply
+    first_of d [] = d
+    first_of d (z ∷ zs) = z
+
+abbrev some : List Reply → Bool
+some [] = false
+some (x ∷ xs) = true
