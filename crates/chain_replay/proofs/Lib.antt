@@ -1,3 +1,4 @@
 -- Why it holds.
 pub mod AllCallsLaws
 pub mod ReplaysLaws
+pub mod StandsLaws

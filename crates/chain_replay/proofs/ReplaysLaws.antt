@@ -1,7 +1,7 @@
 -- Laws of calls over one recording: they lend windows of it, and a loop over them makes them all.
-use Rattle.std.specs.Prelude.{ℕ, ◌+◌, ◌≤◌, ◌<◌, Bool, true, false, ◌≡◌, refl, length, drop, get_or, Option, Some, None}
+use Rattle.std.specs.Prelude.{ℕ, ◌+◌, ◌≤◌, ◌<◌, min, Bool, true, false, ◌≡◌, refl, length, drop, get_or, Option, Some, None}
 use Rattle.std.proofs.Math.Path.{ap}
-use Rattle.std.proofs.Common.{sym, subst, ◌∙◌, arith, add-one, drop-cons}
+use Rattle.std.proofs.Common.{sym, subst, ◌∙◌, arith, add-one, length-drop, drop-cons}
 use Rattle.std.proofs.lemmas.List.{drop_all}
 use mathlib.Core.List.{List, [], ◌∷◌}
 use Rattle.basis.specs.Pick.{pick}
@@ -31,7 +31,7 @@ windows recording (a ∷ rest) = (lends recording a.kind _ (window_of_lem record
 abbrev pub calls_from : ℕ → List ℕ → List Asked → List Call
 calls_from i recording asked = calls_of recording (drop i asked)
 
-one_more : (i : ℕ) (recording : List ℕ) (asked : List Asked) (d : Asked) → i < length asked
+pub one_more : (i : ℕ) (recording : List ℕ) (asked : List Asked) (d : Asked) → i < length asked
     → calls_from i recording asked ≡ call_at recording (get_or asked i d) ∷ calls_from (i + 1) recording asked
 unfolding calls_of
 one_more i recording asked d below =
@@ -63,14 +63,14 @@ module _ (set : Settings) (start : Kept) (calls : List Call) (i : ℕ) (c : Call
   unfolds b e = ap (λ (x : Bool). r ∷ pick x [] (replies set (kept_by r) cs)) (sym (ap (λ (s : Stand). s.ends) is) ∙ e)
 
   -- If it ends the chain, these are all the replies.
-  stops : next.ends ≡ true → Stands start (replies set start calls) next (i + 1)
+  pub stops : next.ends ≡ true → Stands start (replies set start calls) next (i + 1)
   stops e =
       let all = unfolds true e in
       let n = ap (λ (rs : List Reply). length rs) all in
       record { last = is ∙ sym (ap (stand_with at) all) ∙ here.stands; made = omega (arith, n, here.made) }
 
   -- And else it is one turn more.
-  goes_on : next.ends ≡ false → Turn set start calls cs (i + 1) next
+  pub goes_on : next.ends ≡ false → Turn set start calls cs (i + 1) next
   goes_on e =
       let all = unfolds false e in
       let n = ap (λ (rs : List Reply). length rs) all in
@@ -149,3 +149,17 @@ calls_made {start} {scan} {recording} {asked} {last} {made} {i} here all =
     subst (Replays recording start.set (keeps start) (calls_of recording asked) (stand_at recording last scan)) (sym here.counted)
     (follow recording start.set (keeps start) asked _ _
     (all_made start.set (keeps start) (calls_of recording asked) _ i _ here.turn (no_more i recording asked all)))
+
+-- ---- lists that go together
+
+-- What is left of a list is its next one and the rest.
+next_one : {A : Type 0} (l : List A) (i : ℕ) (d : A) → i < length l → drop i l ≡ get_or l i d ∷ drop (i + 1) l
+next_one l i d below = drop-cons l i d below ∙ ap (λ (j : ℕ). get_or l i d ∷ drop j l) (sym (add-one i))
+
+-- There is one in each of four lists at each number below the fewest.
+pub below_all : (a b c d n i : ℕ) → n ≡ min (min a b) (min c d) → i < n → (i < a) × (i < b) × (i < c) × (i < d)
+below_all a b c d n i is below = (omega (arith, is, below), omega (arith, is, below), omega (arith, is, below), omega (arith, is, below))
+
+-- Where something is left, the number is one of the list's.
+longer : {A : Type 0} (i : ℕ) (l : List A) → 0 < length (drop i l) → i < length l
+longer i l some_left = omega (arith, some_left, length-drop i l)
