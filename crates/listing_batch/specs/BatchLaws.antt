@@ -10,6 +10,7 @@ use mir.Val.{bool_byte}
 use Rattle.basis.specs.Pick.{pick}
 use Rattle.basis.specs.PickLaws.{off, on}
 use Rattle.basis.specs.Refusals.{Answer, gives, refuses}
+use Rattle.text.specs.Put.{Put}
 use Rattle.text_writer.specs.Writer.{extended}
 use Rattle.text_writer.specs.declared.TextWriter.{TextWriter}
 use Rattle.text_writer.proofs.WriterLaws.{extended_append}
@@ -242,3 +243,19 @@ module _ {set : Settings} {v₀ : RdhCruSanityValidator} {s₀ : State} {fee_ids
               within = more_within;
               few = omega (arith, here.few, list_moves goes, next_there, next, one_at_most r.unsound, told);
             }
+
+    -- the lines are put behind those that are there, and all of them stand at the buffer's start
+    lines_put : Put x.buf.now x.count (lines_of v got.answer got) y.buf.now y.count
+    lines_put =
+        let put : y ≡ extended x (lines_of v got.answer got) =
+        lists.lines
+        ∙ ap (λ (l : Loaded Part). written x (lines_of v l.answer l)) (sym lists.load)
+        ∙ written_extends x (lines_of v got.answer got) (omega (arith, next, here.within, here.room)) in
+        record {
+          room = omega (arith, same_size, here.room);
+          stored = ap (λ (z : TextWriter). z.buf.now) put;
+          next = ap (λ (z : TextWriter). z.count) put;
+        }
+
+    stored_there : y.buf.now ≡ sets out₀ 0 more
+    stored_there = stored_by y more lines_there
