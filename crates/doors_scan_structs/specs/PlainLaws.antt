@@ -119,3 +119,14 @@ settings_again s =
       skip_payload = s.skip_payload;
       stats = s.stats;
     }
+
+-- ---- what is there or not, of each kind
+
+load_again : (l : Option Position) → open_load (is_some l) (start_or0 l) ≡ l
+load_again l = given_again l (record { 0 = 0 })
+
+option8_again : (o : Option ℕ) → then_some (is_some o) (unwrap_or o 0) ≡ o
+option8_again o = given_again o 0
+
+option16_again : (o : Option ℕ) → then_some (is_some o) (unwrap_or o 0) ≡ o
+option16_again o = given_again o 0
