@@ -1,6 +1,7 @@
 -- Replies come back as they went: what C's structs and the header's bytes hold says all of an answer and of the marks.
 use Rattle.std.specs.Prelude.{ℕ, ◌+◌, ◌≤◌, Bool, true, false, ◌≡◌, refl, List, [], ◌∷◌, ◌++◌, eqb, ℤ, pos, length, drop, Option, None, Some, Result, Ok, Err}
 use Rattle.std.specs.Bool.{then_some}
+use Rattle.std.specs.Option.{is_some}
 use Rattle.std.proofs.Common.{ap, ◌∙◌, le-ltb}
 use Rattle.basis.specs.Pick.{pick}
 use Rattle.basis.specs.PickLaws.{off}
@@ -123,3 +124,13 @@ marks_of_one_again m =
       payload_carry = m.payload_carry;
       payload_cut = m.payload_cut;
     }
+
+initial_again : (i : Option Initial)
+    → then_some (is_some i)
+    (record {
+      trigger_type = (initial_or0 i).trigger_type;
+      data_format = (initial_or0 i).data_format;
+      system_id = (initial_or0 i).system_id;
+    })
+    ≡ i
+initial_again i = given_again i (initial_or0 None)
