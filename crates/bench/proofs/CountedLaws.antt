@@ -14,8 +14,9 @@ use Rattle.scan_cdp.specs.declared.Settings.{Settings}
 use Rattle.scan_cdp.specs.declared.State.{State}
 use Rattle.scan_laws.proofs.RunLaws.{loaded_wants}
 use Rattle.scan_laws.specs.Runs.{is_want}
+use Rattle.listing_window.specs.Held.{nothing}
 use Rattle.listing_window.specs.declared.Held.{Held}
-use Rattle.bench.specs.Counted.{all, is_packet, left_from, most, packets_from}
+use Rattle.bench.specs.Counted.{CountsAll, all, begun, is_packet, left_from, most, packets_from}
 
 -- What holds at each turn where the recording is in memory: `w` is the recording, `total` the number of its packets, and `final` the state that is
 -- left behind them.
@@ -92,3 +93,21 @@ module _ {set : Settings} {w : List ℕ} {total : ℕ} {final : State} {buffer f
   pub no_want : is_want got.answer ≡ true → ⊥
   no_want wants =
       true≢false (loaded_wants set s fee_ids w 0 true (ap (λ (l : Loaded Part). is_want l.answer) (sym there) ∙ wants))
+
+-- ---- the whole
+
+-- what is held at the start stands in the buffer
+pub starts_within : (whole : Bool) (n : ℕ) (h : Held) → h ≡ pick whole (all n) nothing → h.length ≤ n
+starts_within true n h is = omega (arith, ap (λ (x : Held). x.length) is)
+starts_within false n h is = omega (arith, ap (λ (x : Held). x.length) is)
+
+-- all packets are counted by the settings that were asked for
+pub counts_all : {set set' : Settings} {triggers fee_ids w : List ℕ} {n : ℕ} {s : State} → set ≡ set'
+    → Counted (packets_from most set (begun triggers) fee_ids w) (left_from most set (begun triggers) fee_ids w) n s
+    → CountsAll set' triggers fee_ids w n s.triggers
+counts_all {triggers = triggers} {fee_ids = fee_ids} {w = w} same all =
+    record {
+      packets = all.packets ∙ ap (λ (x : Settings). packets_from most x (begun triggers) fee_ids w) same;
+      triggers =
+          ap (λ (x : State). x.triggers) all.state ∙ ap (λ (x : Settings). (left_from most x (begun triggers) fee_ids w).triggers) same;
+    }
