@@ -1,2 +1,3 @@
 pub mod Subfields
 pub mod PayloadSize
+pub mod Messages

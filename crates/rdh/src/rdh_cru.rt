@@ -1,5 +1,6 @@
 // The whole header as the common readout unit (CRU) writes it: 64 bytes.
-ghost use Rattle.std.specs.Prelude.{◌≡◌};
+ghost use Rattle.std.specs.Prelude.{◌≡◌, Some};
+ghost use Rattle.rdh.specs.Messages.{too_few_bytes_text};
 ghost use Rattle.rdh.specs.PayloadSize.{payload_size};
 ghost use Rattle.rdh.specs.Subfields.{cru_id_of, data_format_of, dw_of};
 
@@ -21,6 +22,8 @@ pub const RDH_SIZE: u16 = RDH_CRU_SIZE_BYTES as u16;
 pub struct TooFewBytes;
 
 impl fmt::Display for TooFewBytes {
+    ghost output = { λ _. Some too_few_bytes_text };
+
     fn fmt<W: fmt::Write>(&self, f: &mut fmt::Formatter<W>) -> fmt::Result {
         write!(f, "fewer than {RDH_CRU_SIZE_BYTES} bytes")
     }
