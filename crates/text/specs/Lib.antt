@@ -3,3 +3,4 @@ pub mod Put
 pub mod Written
 pub mod WrittenLaws
 pub mod PutLaws
+pub mod Messages

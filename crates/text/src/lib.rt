@@ -3,7 +3,8 @@
 // measures it.
 #![tactic(auto)]
 
-ghost use Rattle.std.specs.Prelude.{◌≡◌, [], ◌∷◌, replicate};
+ghost use Rattle.std.specs.Prelude.{◌≡◌, [], ◌∷◌, Some, replicate};
+ghost use Rattle.text.specs.Messages.{too_short_text};
 ghost use Rattle.text.specs.Put.{Put};
 
 use std::error::Error;
@@ -16,6 +17,8 @@ pub struct TooShort {
 }
 
 impl fmt::Display for TooShort {
+    ghost output = { λ e. Some (too_short_text e.needed) };
+
     fn fmt<W: fmt::Write>(&self, f: &mut fmt::Formatter<W>) -> fmt::Result {
         write!(
             f,
