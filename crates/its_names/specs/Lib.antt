@@ -2,3 +2,4 @@ pub mod StaveNames
 pub mod StaveNameGrammar
 pub mod StaveNameLaws
 pub mod Parsing
+pub mod Messages

@@ -1,7 +1,8 @@
 // Stave names of the inner tracking system (ITS).
 #![tactic(auto)]
 
-ghost use Rattle.std.specs.Prelude.{◌≡◌, MatchOption};
+ghost use Rattle.std.specs.Prelude.{◌≡◌, Some, MatchOption};
+ghost use Rattle.its_names.specs.Messages.{not_a_stave_name_text};
 ghost use Rattle.its_names.specs.StaveNames.{fee_of_stave, name_answer, named_fee, underscore};
 ghost use Rattle.its_names.specs.StaveNameLaws.{Without};
 ghost use Rattle.its_names.specs.Parsing.{NameParsed, FirstUnderscore};
@@ -19,6 +20,8 @@ const LAYER_STEP: u16 = 0x1000;
 pub struct NotAStaveName;
 
 impl fmt::Display for NotAStaveName {
+    ghost output = { λ _. Some not_a_stave_name_text };
+
     fn fmt<W: fmt::Write>(&self, f: &mut fmt::Formatter<W>) -> fmt::Result {
         write!(f, "the text is not the name of a stave")
     }
