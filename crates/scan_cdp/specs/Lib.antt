@@ -5,3 +5,4 @@ pub mod Windows
 pub mod Loads
 pub mod SkipDistanceClaims
 pub mod Scans
+pub mod Messages

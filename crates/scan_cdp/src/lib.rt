@@ -1,9 +1,10 @@
 // What a scan is asked for, keeps and answers: the layer below the reading of a window.
 #![tactic(auto)]
 
-ghost use Rattle.std.specs.Prelude.{◌≡◌};
+ghost use Rattle.std.specs.Prelude.{◌≡◌, Some};
 ghost use Rattle.scan_cdp.specs.Answers.{number_of};
 ghost use Rattle.scan_cdp.specs.Loads.{no_load_marks, together};
+ghost use Rattle.scan_cdp.specs.Messages.{refusal_text};
 ghost use Rattle.scan_cdp.specs.Steps.{new_state};
 
 use filter::FilterOpt;
@@ -158,6 +159,8 @@ impl Refusal {
 }
 
 impl fmt::Display for Refusal {
+    ghost output = { λ why. Some (refusal_text why) };
+
     fn fmt<W: fmt::Write>(&self, f: &mut fmt::Formatter<W>) -> fmt::Result {
         match self {
             Refusal::End => write!(f, "the recording ends before the next header"),
