@@ -2,6 +2,8 @@
 use Rattle.std.specs.Prelude.{ℕ, ◌+◌, ◌≤◌, ◌<◌, Bool, true, false, ◌≡◌, refl, List, [], ◌∷◌, ◌++◌, length, take}
 use Rattle.std.proofs.Common.{sym, ap, ◌∙◌, append_assoc, append-nil, add-one, arith, length-append, take-suc}
 use Rattle.basis.specs.Pick.{pick}
+use Rattle.text.specs.Put.{Put}
+use Rattle.text.specs.PutLaws.{and_then, respelled}
 use Rattle.trigger_stats.specs.Counters.{Counter, counter_at, counters}
 use Rattle.trigger_stats.specs.Counters.{orbit, hb, hbr, hc, pht, pp, cal, sot, eot, soc, eoc, tf, fe-rst, rt, rs}
 use Rattle.trigger_stats.specs.Counters.{lhc-gap1, lhc-gap2, tpc-sync, tpc-rst, tof}
@@ -31,6 +33,12 @@ next_one text place below =
     ap (λ (ks : List Counter). texts_in_order text ks) more
     ∙ in_order_append text (take place counters) (counter_at place ∷ [])
     ∙ ap (λ (t : List ℕ). texts_in_order text (take place counters) ++ t) (append-nil last)
+
+-- so what is put at a place, behind the texts before it, puts one text more
+pub next_put : {l m n : List ℕ} {i j e : ℕ} (text : Counter → List ℕ) (place : ℕ) → place < 20
+    → Put l i (texts_in_order text (take place counters)) m j → Put m j (text (counter_at place)) n e
+    → Put l i (texts_in_order text (take (place + 1) counters)) n e
+next_put text place below p q = respelled (sym (next_one text place below)) (and_then p q)
 
 -- ---- lengths
 
