@@ -1,15 +1,17 @@
 -- Laws of a check by its verdict and text: something sound; a text that was written, and one that is too long for the buffer.
-use Rattle.std.specs.Prelude.{ℕ, Bool, true, false, ◌≡◌, refl, List, [], leb, ℤ, length, Ok, Err}
+use Rattle.std.specs.Prelude.{ℕ, ◌≤◌, ◌<◌, Bool, true, false, ◌≡◌, refl, List, [], leb, ℤ, length, Ok, Err}
 use Rattle.std.proofs.Common.{ap, sym, subst, ◌∙◌, arith, le-leb}
 use Rattle.basis.specs.Pick.{pick}
 use Rattle.basis.specs.PickLaws.{on, off}
 use Rattle.basis.specs.Refusals.{gives, refuses}
 use Rattle.sanity.specs.declared.Criteria.{Criteria}
 use Rattle.text.specs.declared.TooShort.{TooShort}
+use Rattle.text.specs.Put.{Put}
 use Rattle.text.specs.Written.{Writes, overwritten, written}
+use Rattle.text.specs.WrittenLaws.{fitting, too_short}
 use Rattle.validators.specs.declared.RdhCruSanityValidator.{RdhCruSanityValidator}
 use Rattle.validators.specs.declared.Verdict.TheVariants.{Sound, NotSound}
-use Rattle.validators.specs.Verdict.{ChecksBy, Judges, held_to, holding, settled_id}
+use Rattle.validators.specs.Verdict.{ChecksBy, Judges, held_to, holding, judged_in, settled_id}
 
 -- what a writing answers says whether the text fits
 fits : (b : Bool) {n k : ℕ} (values : List ℤ) → gives n ≡ pick b (gives k) (refuses 7 values) → (b ≡ true) × (n ≡ k)
@@ -20,6 +22,11 @@ too_long : (b : Bool) {values others : List ℤ} (k : ℕ) → refuses 7 values 
     → (b ≡ false) × (values ≡ others)
 too_long true k e = cc
 too_long false k e = (refl, cc)
+
+-- a text that fits gives the verdict
+judged_fitting : (text l : List ℕ) {is_sound b : Bool} {n : ℕ} → is_sound ≡ b → n ≡ length text → length text ≤ length l
+    → judged_in is_sound text (length l) ≡ gives (record { is_sound = b; text_length = n })
+judged_fitting text l e is fits = on _ _ (le-leb _ _ fits) ∙ (λ i. gives (record { is_sound = e i; text_length = sym is i }))
 
 module _ {A : Type 0} {is_sound : Bool} {text l : List ℕ} {settled unsettled : A} where
   -- what is sound settles, too, and its text stands at the buffer's start
@@ -56,6 +63,15 @@ module _ {A : Type 0} {is_sound : Bool} {text l : List ℕ} {settled unsettled :
         validator = sym (off _ _ f.0);
         leaves = w.leaves;
       }
+
+  -- the two last by what is known of the text and the buffer: the text fits and is put, or it is longer than the buffer
+  pub judges_put : {kept : A} {m : List ℕ} {n : ℕ} → is_sound ≡ false → length text ≤ length l → Put l 0 text m n → kept ≡ settled
+      → Judges A is_sound text settled unsettled l (Ok (NotSound n)) kept m
+  judges_put e fits p settles = judges_unsound e (fitting fits p) settles
+
+  pub judges_longer : {need : ℕ} → need ≡ length text → length l < need
+      → Judges A is_sound text settled unsettled l (Err (record { needed = need })) unsettled l
+  judges_longer is short = judges_too_short (too_short l (record { fits = λ enough. omega (arith, is); exact = λ below. is }) short)
 
 -- The three cases of what a check answers and leaves, by what the code finds out: the header ID, the criteria, and whether any test fails.
 module _ (v : RdhCruSanityValidator) {n id : ℕ} (has : n ≡ id) (is_sound : Criteria → Bool) (failures : Criteria → List ℕ)
