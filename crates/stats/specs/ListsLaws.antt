@@ -1,8 +1,9 @@
 -- Laws of lists: what a number that is met leaves.
-use Rattle.std.specs.Prelude.{◌≡◌, ℕ, ◌+◌, ◌<◌, ◌≤◌, Bool, true, false, not, ◌&&◌, List, length, take, nat_lt, slice_set, refl}
+use Rattle.std.specs.Prelude.{◌≡◌, ℕ, ◌+◌, ◌<◌, ◌≤◌, Bool, true, false, not, ◌&&◌, List, [], ◌∷◌, ◌++◌, length, take, ◌==◌, nat_lt, slice_set, refl}
 use Rattle.std.proofs.Math.Bool.{and-eq-true_iff}
 use Rattle.std.proofs.Common.{ap, ap₂, sym, ◌∙◌, arith, add-one, lt-ltb, le-ltb, le-leb, ltb-true, length-set, take-suc-set}
-use Rattle.std.proofs.lemmas.Bool.{lt-leb, not-true}
+use Rattle.std.proofs.lemmas.Bool.{lt-leb, not-true, or_from}
+use Rattle.std.proofs.lemmas.List.Folds.{list_any-append}
 use Rattle.basis.specs.PickLaws.{on, off}
 use Rattle.stats_search.specs.FrontWalkLaws.{twice_put}
 use Rattle.stats.specs.Lists.{full, goes_in, member, places_after, twice, used_after}
@@ -44,6 +45,14 @@ has_place x used l h = sym (ap (λ (b : Bool). b && not (member x (take used l))
 pub searched : (x used : ℕ) (l : List ℕ) → length l ≤ used → not (member x (take used l)) ≡ full x used l
 unfolding full member
 searched x used l h = sym (ap (λ (b : Bool). b && not (member x (take used l))) (le-leb (length l) used h))
+
+-- ---- a number put behind a list
+
+-- what a list does not have, it does not have with another number behind it; and as `twice_put` of `FrontWalkLaws` says, a list with nothing
+-- twice has nothing twice with a new number behind it
+pub member_put : (y x : ℕ) (l : List ℕ) → member y l ≡ false → (y == x) ≡ false → member y (l ++ (x ∷ [])) ≡ false
+unfolding member
+member_put y x l absent other = list_any-append (λ z. y == z) l (x ∷ []) ∙ or_from _ _ absent (or_from _ _ other refl)
 
 -- After a number is met, the list is as long as before, and its used part lies in it and has nothing twice if it did so before.
 module _ (x used : ℕ) (l : List ℕ) where
