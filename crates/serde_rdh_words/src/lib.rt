@@ -1,8 +1,8 @@
-// The eight words of a header, each of eight bytes, lowest byte first: written in a row.
+// The eight words of a header, each of eight bytes, lowest byte first: written in a row, and compared.
 #![tactic(auto)]
 
-ghost use Rattle.std.specs.Prelude.{◌≡◌, ◌↔◌, ◌≤◌, length, IsOk};
-ghost use Rattle.serde_rdh_words.specs.WordBytes.{words_into};
+ghost use Rattle.std.specs.Prelude.{true, ◌≡◌, ◌↔◌, ◌≤◌, length, IsOk};
+ghost use Rattle.serde_rdh_words.specs.WordBytes.{word_bytes, words_into};
 
 use rdh::rdh_cru::{RDH_CRU_SIZE_BYTES, TooFewBytes};
 
@@ -19,4 +19,11 @@ pub fn write_words(out: &mut [u8], words: [u64; 8]) -> Result<(), TooFewBytes>
         out[8 * w..8 * w + 8].copy_from_slice(&word.to_le_bytes());
     }
     Ok(())
+}
+
+// Whether all words are the same, which is so exactly when their bytes are.
+pub fn same_words(a: [u64; 8], b: [u64; 8]) -> bool
+    ensures { (result ≡ true) ↔ (word_bytes a ≡ word_bytes b) }
+{
+    a == b
 }
