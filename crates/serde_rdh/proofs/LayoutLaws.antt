@@ -2,14 +2,14 @@
 -- bytes are. What holds of every field is proved over a list of fields that stand side by side.
 use Rattle.std.specs.Prelude.{◌≡◌, refl, Bool, true, false, ◌↔◌, ℕ, ◌+◌, ◌≤◌, ◌<◌, eqb, ltb, ℤ, length, drop}
 use Rattle.std.proofs.Math.Path.{sym, ap, subst}
-use Rattle.std.proofs.Common.{◌∙◌, arith, ltb-true, ltb-false, take-add}
+use Rattle.std.proofs.Common.{◌∙◌, true≢false, arith, ltb-true, ltb-false, take-add}
 use mathlib.Core.List.{List, [], ◌∷◌, ◌++◌, append_assoc, append-nil}
 use Rattle.std.proofs.Math.ListN.{take, length-append}
 use Rattle.basis.specs.Bytes.{Bytes, bytes_of, number_at}
 use Rattle.basis.specs.BytesLaws.{length_bytes_of, bytes_of_number_at, number_at_bytes_of, number_at_take}
 use Rattle.basis.specs.Pick.{pick}
 use Rattle.basis.specs.PickLaws.{on, off}
-use Rattle.basis.specs.Refusals.{gives, refuses}
+use Rattle.basis.specs.Refusals.{Answer, gives, refuses}
 use Rattle.rdh.specs.declared.rdh_cru.RdhCru.{RdhCru}
 use Rattle.serde_rdh.specs.Layout.{Field, fields, span, value, Tiles, header, number, decode, decoded, bytes_in, encoded, InRange}
 use Rattle.serde_rdh.specs.Layout.{header-id, header-size, fee-id, priority-bit, system-id, rdh0-reserved0, offset-new-packet}
@@ -177,6 +177,14 @@ same_bytes a b fits-a fits-b =
 
 -- ---- what an answer tells of the bytes
 
+abbrev is_given : Answer RdhCru → Bool
+is_given (gives h) = true
+is_given (refuses number values) = false
+
+abbrev given_or : RdhCru → Answer RdhCru → RdhCru
+given_or other (gives h) = h
+given_or other (refuses number values) = other
+
 -- Bytes that decoding refuses are too few.
 pub decode-refused : (s : List ℕ) (number : ℕ) (values : List ℤ) → refuses number values ≡ decode s → length s < 64
 unfolding decode
@@ -184,7 +192,7 @@ decode-refused s number values e = by_length (ltb (length s) 64) refl
   where
     by_length : (b : Bool) → ltb (length s) 64 ≡ b → length s < 64
     by_length true few = ltb-true (length s) 64 few
-    by_length false enough = let given : refuses number values ≡ gives (decoded s) = e ∙ off _ _ enough in cc
+    by_length false enough = absurd (true≢false (sym (ap is_given (e ∙ off _ _ enough))))
 
 -- Bytes that decoding takes are enough, and the header is what they hold.
 pub decode-given : (s : List ℕ) (h : RdhCru) → gives h ≡ decode s → (64 ≤ length s) × (h ≡ decoded s)
@@ -192,5 +200,5 @@ unfolding decode
 decode-given s h e = by_length (ltb (length s) 64) refl
   where
     by_length : (b : Bool) → ltb (length s) 64 ≡ b → (64 ≤ length s) × (h ≡ decoded s)
-    by_length true few = let refused : gives h ≡ refuses 9 [] = e ∙ on _ _ few in cc
-    by_length false enough = (ltb-false (length s) 64 enough, (let given : gives h ≡ gives (decoded s) = e ∙ off _ _ enough in cc))
+    by_length true few = absurd (true≢false (ap is_given (e ∙ on _ _ few)))
+    by_length false enough = (ltb-false (length s) 64 enough, ap (given_or h) (e ∙ off _ _ enough))
