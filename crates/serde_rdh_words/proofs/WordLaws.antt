@@ -1,7 +1,8 @@
 -- Laws of words in a row: the library's bytes of a word, one more word, what a buffer then holds, and that words come back from their bytes.
-use Rattle.std.specs.Prelude.{◌≡◌, refl, List, [], ◌∷◌, ◌++◌, ℕ, zero, suc, ◌+◌, ◌-◌, ◌/◌, ◌%◌, ◌^◌, ◌≤◌, ◌<◌, length, take, drop, get_or}
+use Rattle.std.specs.Prelude.{◌≡◌, refl, List, [], ◌∷◌, ◌++◌, ℕ, zero, suc, ◌+◌, ◌*◌, ◌-◌, ◌/◌, ◌%◌, ◌^◌, ◌≤◌, ◌<◌, length, take, drop, get_or}
 use Rattle.std.specs.Int.{w64, byte_at, bytes_low_first, to_le_bytes}
-use Rattle.std.proofs.Common.{sym, ap, ap₂, ◌∙◌, append_assoc, arith, le-ltb, lt-ltb, take-append-drop, append-nil, drop-drop, take_at, drop_at}
+use Rattle.std.proofs.Common.{sym, ap, ap₂, ◌∙◌, arith, le-ltb, lt-ltb}
+use Rattle.std.proofs.Common.{append_assoc, append-nil, length-append, take-append-drop, drop-drop, take_at, drop_at}
 use Rattle.std.proofs.Math.Nat.{div-one, div-div-eq-div-mul, pow-suc}
 use Rattle.basis.specs.Bytes.{bytes_of, little}
 use Rattle.basis.specs.BytesLaws.{length_bytes_of, little_bytes_of}
@@ -23,6 +24,12 @@ bytes_from i (suc k) n =
 -- the bytes that `to_le_bytes` gives
 pub eight_bytes : (n : ℕ) → to_le_bytes w64 n ≡ bytes_of 8 n
 eight_bytes n = bytes_from 0 8 n ∙ ap (bytes_of 8) (div-one n)
+
+-- eight bytes a word
+pub length_word_bytes : (ws : List ℕ) → length (word_bytes ws) ≡ 8 * length ws
+unfolding word_bytes
+length_word_bytes [] = refl
+length_word_bytes (w ∷ ws) = omega (arith, length-append (bytes_of 8 w) (word_bytes ws), length_bytes_of 8 w, length_word_bytes ws)
 
 -- one more word
 pub one_more : (ws : List ℕ) (w : ℕ) → w < length ws → word_bytes (take (w + 1) ws) ≡ word_bytes (take w ws) ++ bytes_of 8 (get_or ws w 0)
