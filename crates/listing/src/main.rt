@@ -2,10 +2,11 @@
 // that ended it. What stands in the lines is said by the crate `listing_load`; here is the reading and the writing.
 #![tactic(auto)]
 
-ghost use Rattle.std.specs.Prelude.{◌≡◌, ◌+◌, ◌≤◌, length, OnOk};
+ghost use Rattle.std.specs.Prelude.{◌≡◌, ◌+◌, ◌≤◌, length, take, OnOk};
 ghost use Rattle.listing_lines.specs.Lines.{room};
 
-use scan_cdp::{LoadCdp, Scan, State};
+use listing_window::Held;
+use scan_cdp::{LoadCdp, Scan, State, Window};
 use std::fmt::InlineText;
 use std::io;
 use std::io::{ErrorKind, Read, Seek, SeekFrom};
@@ -49,6 +50,7 @@ fn main(rt: HostRuntime) {
 
 // Lists until a refusal, or until a read or a write fails. Answers with the error of a write; that of a read is said, and ends the listing.
 // Nothing says that an input ends, and a proved loop must: so the turns are counted, up to a number that no run reaches.
+#[inline(always)]
 fn list<R: Print + Eprint>(
     rt: &R,
     scan: &mut Scan,
@@ -62,7 +64,7 @@ fn list<R: Print + Eprint>(
     let mut held = listing_window::empty();
     for _ in 0..u64::MAX {
         make_room(rt, w)?;
-        let window = held.window(buffer);
+        let window = shown(held, buffer);
         match listing_load::list_cdp(scan, &mut validator, window, w)
             .load
             .answer
@@ -83,7 +85,18 @@ fn list<R: Print + Eprint>(
     flush(rt, w)
 }
 
+// The window for the next load: all that is held, which stands in the buffer.
+fn shown<'a>(held: Held, buffer: &'a [u8]) -> Window<'a>
+    requires { held.length ≤ length buffer.now }
+    ensures bytes { result.bytes.now ≡ take held.length buffer.now }
+    ensures first { result.first ≡ held.first }
+    ensures last { result.last ≡ held.last }
+{
+    held.window(buffer)
+}
+
 // Makes room for the lines of a load, behind those that are there; they are written out first if there is none.
+#[inline(always)]
 fn make_room<R: Print>(rt: &R, w: &mut TextWriter) -> io::Result<()>
     requires { (w.old.count ≤ length w.old.buf.now) × (room ≤ length w.old.buf.now) }
     ensures room { OnOk result (w.new.count + room ≤ length w.new.buf.now) }
@@ -97,6 +110,7 @@ fn make_room<R: Print>(rt: &R, w: &mut TextWriter) -> io::Result<()>
 }
 
 // Writes out the lines.
+#[inline(always)]
 fn flush<R: Print>(rt: &R, w: &TextWriter) -> io::Result<()>
     requires { w.now.count ≤ length w.now.buf.now }
 {
