@@ -10,7 +10,7 @@ ghost use Rattle.serde_rdh.specs.Words.{Words};
 pub use rdh::rdh_cru::TooFewBytes;
 use rdh::rdh_cru::{CruidDw, DataformatReserved, RDH_CRU_SIZE_BYTES, RdhCru};
 use serde_rdh_numbers::Half;
-use serde_rdh_words::write_words;
+use serde_rdh_words::{same_words, write_words};
 
 mod rdh0;
 mod rdh1;
@@ -64,11 +64,11 @@ pub fn to_byte_slice(rdh: RdhCru, out: &mut [u8]) -> Result<(), TooFewBytes>
     write_words(out, words(rdh))
 }
 
-// Equality by bytes. The fields fill them, so it is the equality of the fields.
+// Equality by bytes, eight at a time. The fields fill them, so it is the equality of the fields.
 pub fn eq(rdh: RdhCru, other: RdhCru) -> bool
     ensures { Equal rdh other result }
 {
-    rdh == other
+    same_words(words(rdh), words(other))
 }
 
 // The header as eight words of eight bytes, each as one number.
