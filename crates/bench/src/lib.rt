@@ -46,11 +46,12 @@ pub fn kesarimbu_load_all(
         → CountsAll (settings_of skip_payload stats) triggers.old fee_ids.old buffer.old result
         triggers.new }
 {
-    let mut state = State::new();
+    let state = State::new();
+    let mut links = state.links;
     let mut scan = Scan {
         set: settings(skip_payload, stats),
         progress: state.progress,
-        links: &mut state.links,
+        links: &mut links,
         triggers,
         fee_ids,
     };
