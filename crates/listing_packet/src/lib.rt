@@ -66,7 +66,8 @@ fn put_verdict_line(
     }
 }
 
-// The check of a header with room for any verdict's text, so that it is never refused.
+// The check of a header with room for any verdict's text, so that it is never refused. The validator comes by value, since owning one tells that its
+// header ID is a byte, and is lent to the check here.
 fn check(
     validator: RdhCruSanityValidator,
     rdh: RdhCru,
@@ -74,5 +75,10 @@ fn check(
 ) -> SanityCheck
     ensures { Told validator rdh result.verdict result.validator text.new }
 {
-    validator.sanity_check(rdh, text)
+    let mut lent = validator;
+    let verdict = lent.sanity_check_lent(rdh, text);
+    SanityCheck {
+        verdict,
+        validator: lent,
+    }
 }
