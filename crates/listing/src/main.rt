@@ -49,7 +49,8 @@ fn main(rt: HostRuntime) {
 }
 
 // Lists until a refusal, or until a read or a write fails. Answers with the error of a write; that of a read is said, and ends the listing.
-// Nothing says that an input ends, and a proved loop must: so the turns are counted, up to a number that no run reaches.
+// Nothing says that an input ends, and a proved loop must: so the turns are counted, up to a number that no run reaches. What each packet goes
+// through is in line, here and below, so that scan and writer stand in registers.
 #[inline(always)]
 fn list<R: Print + Eprint>(
     rt: &R,

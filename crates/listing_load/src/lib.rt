@@ -18,7 +18,8 @@ pub struct Listed {
 }
 
 // Loads the next packet and writes what the listing says of it: a packet's lines, or the last lines with a refusal, and nothing with a want. The
-// validator is left for the next packet.
+// validator is left for the next packet. In line: the reply is large, and who lists reads little of it.
+#[inline(always)]
 pub fn list_cdp(
     scan: &mut Scan,
     validator: &mut RdhCruSanityValidator,

@@ -16,7 +16,9 @@ mod rdh1;
 mod rdh2;
 mod rdh3;
 
-// The text of a header that is not sound.
+// The text of a header that is not sound. Out of line, so that the code that a sound one goes through stays small.
+#[cold]
+#[inline(never)]
 pub fn put_text(w: &mut TextWriter, criteria: Criteria, rdh: RdhCru)
     ensures { w.new ≡ extended w.old (failure_text criteria rdh) }
 {

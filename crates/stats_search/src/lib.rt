@@ -5,7 +5,8 @@ ghost use Rattle.std.specs.Prelude.{◌≡◌, take};
 ghost use Rattle.std.specs.List.{list_any};
 ghost use Rattle.stats_search.specs.Search.{twice};
 
-// Whether a link or a FEE id is in the used part of the list.
+// Whether a link or a FEE id is in the used part of the list. In line: it is asked for each header.
+#[inline(always)]
 pub fn has<T: Eq + Copy>(list: &[T], used: usize, x: T) -> bool
     ensures { result ≡ list_any (T.eq x) (take used list.now) }
 {

@@ -80,7 +80,8 @@ impl<'a> TextWriter<'a> {
         self.count = text_numbers::put_decimal_left(&mut *self.buf, self.count, n, width);
     }
 
-    // A number in hexadecimal, with blanks behind it up to the width.
+    // A number in hexadecimal, with blanks behind it up to the width. In line, so that the count of a row stands in a register.
+    #[inline(always)]
     pub fn write_hex_left(&mut self, n: u64, width: usize)
         ensures { self.new ≡ extended self.old (left width (hex n)) }
     {
