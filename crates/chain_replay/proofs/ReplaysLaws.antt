@@ -87,10 +87,23 @@ pub record Made (start : Scan) (recording : List ℕ) (asked : List Asked) (scan
   pub counted : made ≡ i
 
 pub none_made : {start : Scan} {recording : List ℕ} {asked : List Asked} → Made start recording asked start None 0 0
-none_made = record { turn = no_turn _ _ _; same = record { set = refl; links = refl; triggers = refl; fee_ids = refl }; counted = refl }
+none_made =
+    record {
+      turn = no_turn _ _ _;
+      same = record { set = refl; links = refl; triggers = refl; fee_ids = refl; links_length = refl; fee_ids_length = refl };
+      counted = refl;
+    }
 
 pub same_on : {a b c : Scan} → SameScan a b → SameScan b c → SameScan a c
-same_on p q = record { set = q.set ∙ p.set; links = q.links ∙ p.links; triggers = q.triggers ∙ p.triggers; fee_ids = q.fee_ids ∙ p.fee_ids }
+same_on p q =
+    record {
+      set = q.set ∙ p.set;
+      links = q.links ∙ p.links;
+      triggers = q.triggers ∙ p.triggers;
+      fee_ids = q.fee_ids ∙ p.fee_ids;
+      links_length = q.links_length ∙ p.links_length;
+      fee_ids_length = q.fee_ids_length ∙ p.fee_ids_length;
+    }
 
 -- With no call to come, these are all the replies, too.
 pub all_made : (set : Settings) (start : Kept) (calls cs : List Call) (i : ℕ) (at : Stand) → Turn set start calls cs i at → cs ≡ []

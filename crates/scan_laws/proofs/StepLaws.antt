@@ -148,7 +148,7 @@ examined_cases set s fee_ids w first last P six short ends cuts enters = by_6 (u
 
 -- ---- the lists that an examination leaves
 
-length_listed : (due : Bool) (x used : ℕ) (l : List ℕ) → length (places_listed due x used l) ≡ length l
+pub length_listed : (due : Bool) (x used : ℕ) (l : List ℕ) → length (places_listed due x used l) ≡ length l
 unfolding places_listed
 length_listed true x used l = length_places x used l
 length_listed false x used l = refl

@@ -1,9 +1,11 @@
 -- Laws of what is replied for a header, and that the replies are those of an examination.
-use Rattle.std.specs.Prelude.{◌≡◌, ℕ, ◌+◌, ◌-◌, ◌<◌, ◌≤◌, min, Bool, true, false, not, ◌&&◌, ◌||◌, List, [], length, drop, ℤ}
+use Rattle.std.specs.Prelude.{◌≡◌, refl, ℕ, ◌+◌, ◌-◌, ◌<◌, ◌≤◌, min, Bool, true, false, not, ◌&&◌, ◌||◌, List, [], length, drop, ℤ}
 use Rattle.std.proofs.Math.Path.{ap, sym}
 use Rattle.std.proofs.Common.{subst, ◌∙◌, arith, ltb-false, length-drop}
 use Rattle.basis.specs.PickLaws.{neither, on, off}
 use Rattle.basis.specs.Refusals.{gives, refuses}
+use Rattle.outcome.specs.declared.Judged.{Judged}
+use Rattle.rdh.specs.declared.rdh_cru.RdhCru.{RdhCru}
 use Rattle.serde_rdh.specs.Layout.{decode, decoded}
 use Rattle.serde_rdh.proofs.LayoutLaws.{decode-given, decode-refused}
 use Rattle.scan_cdp.specs.Outcomes.{header_fee_id, payload_size, header_trigger_type}
@@ -13,8 +15,9 @@ use Rattle.scan_cdp.specs.Windows.{examined_unless, located, outside, reply_for,
 use Rattle.scan_cdp.specs.declared.Outcome.{Outcome}
 use Rattle.scan_cdp.specs.declared.Part.{Part}
 use Rattle.scan_cdp.specs.declared.Progress.{Progress}
+use Rattle.scan_laws.proofs.StepLaws.{length_listed}
 use Rattle.scan_laws.proofs.WindowLaws.{shown_within, unless_6, unless_header, unless_short}
-use Rattle.scan_cdp.specs.Scans.{state_of}
+use Rattle.scan_cdp.specs.Scans.{SameScan, state_of}
 use Rattle.scan_cdp.specs.declared.Scan.{Scan}
 use Rattle.scan_cdp.specs.declared.State.{State}
 use Rattle.scan_step.specs.declared.Header.{Header}
@@ -72,6 +75,33 @@ module _ (s : Scan) (h : Header) (last : Bool) where
               (used_listed d (header_fee_id h.rdh) p.fee_ids_used s.fee_ids.now))
               (places_listed d h.rdh.link_id p.links_used s.links.now)
               (triggers_after d (header_trigger_type h.rdh) s.triggers.now)
+
+-- Listing a header leaves the scan the same one: a list that is lent keeps its length.
+same_listed : (due : Bool) (rdh : RdhCru) (s : Scan) → SameScan s (listed due rdh s)
+same_listed due rdh s =
+    record {
+      set = refl;
+      links = refl;
+      triggers = refl;
+      fee_ids = refl;
+      links_length = length_listed due rdh.link_id s.progress.links_used s.links.now;
+      fee_ids_length = length_listed due (header_fee_id rdh) s.progress.fee_ids_used s.fee_ids.now;
+    }
+
+-- So does passing it.
+pub same_stepped : (due : Bool) (rdh : RdhCru) {s t after : Scan} {j : Judged} {h : Header} {r : Examination} → t ≡ listed due rdh s
+    → Stepped t j h r after → SameScan s after
+same_stepped due rdh {s} is entered =
+    let same = subst (λ (a : Scan). SameScan s a) (sym is) (same_listed due rdh s) in
+    subst (λ (a : Scan). SameScan s a) (sym entered.left)
+    (record {
+      set = same.set;
+      links = same.links;
+      triggers = same.triggers;
+      fee_ids = same.fee_ids;
+      links_length = same.links_length;
+      fee_ids_length = same.fee_ids_length;
+    })
 
 -- ---- the whole
 

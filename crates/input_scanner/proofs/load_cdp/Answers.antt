@@ -56,7 +56,7 @@ pub loop-answer-init : goal.loop-answer-init
 loop-answer-init c =
     let s = c.args.scan.now in
     let window = c.args.window in (
-      record { set = refl; links = refl; triggers = refl; fee_ids = refl },
+      record { set = refl; links = refl; triggers = refl; fee_ids = refl; links_length = refl; fee_ids_length = refl },
       subst
           (λ (ms : LoadMarks).
           LoadTurn s.set no_load_marks (state_of s) s.fee_ids.now window.bytes.now window.first.0 window.last ms (state_of s) s.fee_ids.now)
@@ -89,7 +89,14 @@ loop-answer-preserved c =
     let still = c.take_step-next.ensures.same in
     let is = c.take_step-next.ensures.examined ∙ examines s₀ s w window.first.0 window.last same turn.once in
     let passes = goes_on c.take_step-next.result.answer (sym c.transpose.ensures ∙ c.in_default.is) in (
-      record { set = cc; links = cc; triggers = cc; fee_ids = cc },
+      record {
+        set = cc;
+        links = cc;
+        triggers = cc;
+        fee_ids = cc;
+        links_length = still.links_length ∙ same.links_length;
+        fee_ids_length = still.fee_ids_length ∙ same.fee_ids_length;
+      },
       subst
           (λ (ms : LoadMarks).
           LoadTurn s₀.set no_load_marks (state_of s₀) s₀.fee_ids.now w window.first.0 window.last ms (state_of next) next.fee_ids.now)

@@ -25,7 +25,7 @@ loop-w-init c =
     let s = args.scan.now in
     let window = args.window in
     let begun = c.new-w.ensures in (
-      record { set = refl; links = refl; triggers = refl; fee_ids = refl },
+      record { set = refl; links = refl; triggers = refl; fee_ids = refl; links_length = refl; fee_ids_length = refl },
       list_begins s.set args.validator.now (state_of s) s.fee_ids.now window.bytes.now window.first.0 window.last args.out.now c.new-w.result
           (ap (λ (x : TextWriter). x.count) begun) (ap (λ (x : TextWriter). x.buf.now) begun) (search rules),
     )
@@ -57,7 +57,14 @@ loop-w-preserved c =
     let still = c.list_cdp-listed.ensures.same in
     let lists = lists_as _ _ _ same c.list_cdp-listed.ensures.lists in
     let goes = sym c.is_packet.ensures ∙ c.if-not-is_packet.false in (
-      record { set = cc; links = cc; triggers = cc; fee_ids = cc },
+      record {
+        set = cc;
+        links = cc;
+        triggers = cc;
+        fee_ids = cc;
+        links_length = still.links_length ∙ same.links_length;
+        fee_ids_length = still.fee_ids_length ∙ same.fee_ids_length;
+      },
       list_goes_on turn lists c.from-unsound.ensures c.loop-w-test.true goes,
     )
 

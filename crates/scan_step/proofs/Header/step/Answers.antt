@@ -9,7 +9,7 @@ use Rattle.scan_cdp.specs.declared.Scan.{Scan}
 use Rattle.scan_replies.specs.Examinations.{examination_of}
 use Rattle.scan_replies.specs.declared.Examination.{Examination}
 use Rattle.scan_step.specs.Headers.{Stepped, listed}
-use Rattle.scan_step.proofs.HeadersLaws.{header_entered, header-wanted}
+use Rattle.scan_step.proofs.HeadersLaws.{header_entered, header-wanted, same_stepped}
 use Rattle.scan_step.proofs.Header.step.Goals as goal
 
 pub returns-then-last-is_cut-clause-examined : goal.returns-then-last-is_cut-clause-examined
@@ -36,3 +36,6 @@ returns-clause-examined c =
     (λ (j : Judged). Stepped (listed (c.judge-judged.result.set.stats && c.is_counted.result) h.rdh scan) j h c.pass.result c.pass.new.scan)
     judged
     (subst (λ (s : Scan). Stepped s c.judge-judged.result h c.pass.result c.pass.new.scan) c.list.ensures c.pass.ensures))
+
+pub returns-clause-same : goal.returns-clause-same
+returns-clause-same c = same_stepped _ c.args.self.now.rdh c.list.ensures c.pass.ensures
