@@ -41,7 +41,7 @@ pub fn put_byte(out: &mut [u8], at: usize, b: u8) -> usize
     at.saturating_add(1)
 }
 
-// A byte string, byte by byte and by a counted place: most are a few bytes long, and both a call that copies and an iterator cost more than these.
+// A byte string, byte by byte and by a counted place.
 pub fn put_bytes(out: &mut [u8], at: usize, s: &[u8]) -> usize
     ensures { Put out.old at s.now out.new result }
 {
