@@ -1,6 +1,5 @@
--- What `{}` writes of a refusal.
+-- What is written of bytes that are fewer than a header's (R9).
 use Rattle.std.specs.Prelude.{ℕ, List, ◌++◌, codes, decimal}
 
--- Fewer bytes than the 64 of a header.
 abbrev pub too_few_bytes_text : List ℕ
 too_few_bytes_text = codes "fewer than " ++ decimal 64 ++ codes " bytes"

@@ -1,8 +1,9 @@
--- What `{}` writes of a refusal. Its values, of refusal 2, are not in it.
+-- What is written of a scan's refusals (R1 to R4, R6).
 use Rattle.std.specs.Prelude.{ℕ, List, codes}
 use Rattle.scan_cdp.specs.declared.Refusal.{Refusal}
 use Rattle.scan_cdp.specs.declared.Refusal.TheVariants.{End, OffsetToNext, MemorySize, FeeIdsFull, Unusable}
 
+-- The values of refusal 2 are not in its text.
 abbrev pub refusal_text : Refusal → List ℕ
 refusal_text End = codes "the recording ends before the next header"
 refusal_text (OffsetToNext distance position) = codes "the offset to the next header is outside 64 to 10064"
