@@ -1,4 +1,4 @@
--- Proof that a list of what is asked leaves nothing out.
+-- Proof that a list of what is asked leaves nothing out, nor four lists.
 use Rattle.std.specs.Prelude.{ℕ, zero, suc, ◌+◌, ◌≤◌, Bool, true, false, ◌&&◌, ◌≡◌, refl, List, [], ◌∷◌, leb, length, take}
 use Rattle.std.proofs.Common.{ap, sym, ◌∙◌, le-leb}
 use Rattle.std.proofs.Math.Seq.{take-nil}
@@ -12,8 +12,10 @@ use Rattle.chain_replay_calls.specs.OneCall.{call_at, lent_as, window_at}
 use Rattle.chain_replay_calls.specs.declared.Asked.{Asked}
 use Rattle.chain_replay_calls.specs.declared.CallKind.{CallKind}
 use Rattle.chain_replay_calls.specs.declared.CallKind.TheVariants.{Examination, Load}
-use Rattle.chain_replay.specs.AllCallsClaims.{EachReply, EveryCall}
-use Rattle.chain_replay.specs.Replays.{calls_of}
+use Rattle.chain_replay.specs.AllCallsClaims.{EachReply, EachReplyOfLists, EveryCall, EveryCallOfLists}
+use Rattle.chain_replay.specs.AllCallsClaims.{all_asked, asked_by, firsts_of, kinds_of, lasts_of, sizes_of}
+use Rattle.chain_replay.specs.Replays.{calls_of, chain_replies}
+use Rattle.chain_replay.proofs.FourListsLaws.{asked_lists, first_asked, same_calls}
 use Rattle.chain_replay.proofs.ReplaysLaws.{windows}
 
 -- ---- every call
@@ -62,3 +64,24 @@ each-reply n recording set start asked =
     ∙ ap (replies set start) (first_calls n recording asked)
     ∙ first_replies n set start calls
     ∙ ap (λ (rs : List Reply). take n rs) (calls_follow recording set start calls (windows recording asked))
+
+-- ---- four lists
+
+all_said : (calls : List Call) → asked_lists (kinds_of calls) (firsts_of calls) (sizes_of calls) (lasts_of calls) ≡ all_asked calls
+unfolding asked_lists
+all_said [] = refl
+all_said (examines w ∷ cs) = ap (λ (asked : List Asked). asked_by (examines w) ∷ asked) (all_said cs)
+all_said (loads w ∷ cs) = ap (λ (asked : List Asked). asked_by (loads w) ∷ asked) (all_said cs)
+
+pub every_call_of_lists : EveryCallOfLists
+every_call_of_lists recording calls of =
+    sym (same_calls recording (kinds_of calls) (firsts_of calls) (sizes_of calls) (lasts_of calls))
+    ∙ ap (calls_of recording) (all_said calls) ∙ every_call recording calls of
+
+pub each-reply-of-lists : EachReplyOfLists
+each-reply-of-lists n recording set start kinds firsts sizes lasts =
+    let said = chain_replies recording set start in
+    ap said (sym (same_calls recording (take n kinds) (take n firsts) (take n sizes) (take n lasts)))
+    ∙ ap (λ (asked : List Asked). said (calls_of recording asked)) (first_asked n kinds firsts sizes lasts)
+    ∙ each-reply n recording set start (asked_lists kinds firsts sizes lasts)
+    ∙ ap (λ (cs : List Call). take n (said cs)) (same_calls recording kinds firsts sizes lasts)

@@ -7,7 +7,10 @@ ghost use Rattle.chain_replay_calls.specs.OneCall.{keeps};
 ghost use Rattle.chain_replay.specs.Replays.{Replays, calls_of, stand_at};
 
 use chain_replay_calls::{Asked, Called};
+pub use lists::replay_lists;
 use scan_cdp::Scan;
+
+mod lists;
 
 // The last reply, if a call was made, and how many were.
 #[derive(Clone, Copy, Debug, PartialEq, Eq)]
