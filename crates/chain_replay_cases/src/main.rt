@@ -4,6 +4,7 @@
 
 ghost use Rattle.std.specs.Prelude.{◌≤◌};
 
+use chain_replay::Replayed;
 use chain_replay_calls::{Asked, CallKind, Called, Told};
 use filter::FilterOpt;
 use scan_cdp::{LoadCdp, Part, Progress, Refusal, Scan, Settings, State};
@@ -37,7 +38,7 @@ fn main(rt: HostRuntime) -> io::Result<()> {
     let recording = recording();
     let calls = calls();
     for first in 0..=calls.len() {
-        replayed(rt, &recording, &calls[..first])?;
+        replayed(rt, &recording, &calls, first)?;
     }
     Ok(())
 }
@@ -75,7 +76,9 @@ fn settings() -> Settings {
     }
 }
 
-fn replayed(rt: &impl Print, recording: &[u8], calls: &[Asked]) -> io::Result<()> {
+fn replayed(rt: &impl Print, recording: &[u8], calls: &[Asked; 7], first: usize) -> io::Result<()>
+    requires { first ≤ 7 }
+{
     let mut state = State::new();
     let mut fee_ids = [0; 2];
     let mut scan = Scan {
@@ -85,7 +88,7 @@ fn replayed(rt: &impl Print, recording: &[u8], calls: &[Asked]) -> io::Result<()
         triggers: &mut state.triggers,
         fee_ids: &mut fee_ids,
     };
-    let replayed = chain_replay::replay(&mut scan, recording, calls);
+    let replayed = replay(&mut scan, recording, calls, first);
     let progress = scan.progress;
     cases_show::text(rt, b"made")?;
     cases_show::number(rt, replayed.made as u64)?;
@@ -96,6 +99,20 @@ fn replayed(rt: &impl Print, recording: &[u8], calls: &[Asked]) -> io::Result<()
         cases_show::text(rt, b", the end")?;
     }
     cases_show::end(rt)
+}
+
+// An even number of calls is asked for by one list, an odd one by four, of which the first alone is cut to that number.
+fn replay(scan: &mut Scan, recording: &[u8], calls: &[Asked; 7], first: usize) -> Replayed
+    requires { first ≤ 7 }
+{
+    if first % 2 == 0 {
+        return chain_replay::replay(scan, recording, &calls[..first]);
+    }
+    let loads = calls.map(|asked| asked.kind == CallKind::Load);
+    let firsts = calls.map(|asked| asked.first);
+    let sizes = calls.map(|asked| asked.size);
+    let lasts = calls.map(|asked| asked.last);
+    chain_replay::replay_lists(scan, recording, &loads[..first], &firsts, &sizes, &lasts)
 }
 
 fn told(rt: &impl Print, recording: &[u8], last: Option<Called>) -> io::Result<()> {
