@@ -16,18 +16,8 @@ mod rdh1;
 mod rdh2;
 mod rdh3;
 
-// The text of a header that is not sound. It is rarely due, and said to be, so that what a sound header goes through stands in a row.
-#[cold]
-#[inline(never)]
+// The text of a header that is not sound.
 pub fn put_text(w: &mut TextWriter, criteria: Criteria, rdh: RdhCru)
-    ensures { w.new ≡ extended w.old (failure_text criteria rdh) }
-{
-    put_words(w, criteria, rdh);
-}
-
-// What fails of each word, one behind the other. In line above it would be made small, and not fast.
-#[inline(never)]
-fn put_words(w: &mut TextWriter, criteria: Criteria, rdh: RdhCru)
     ensures { w.new ≡ extended w.old (failure_text criteria rdh) }
 {
     w.write_bytes(b"[E10] RDH sanity check failed: ");

@@ -2,6 +2,7 @@
 #![tactic(auto)]
 
 ghost use Rattle.std.specs.Prelude.{◌≡◌};
+ghost use Rattle.text.specs.Written.{Writes};
 ghost use Rattle.validators.specs.Lent.{ChecksLent};
 ghost use Rattle.validators.specs.Verdict.{Checks, ChecksBy, expected_id, held_to, holding, settled_id};
 
@@ -101,7 +102,7 @@ impl RdhCruSanityValidator {
                 validator: settled,
             };
         }
-        match write_text(Failures { criteria, checked }, text) {
+        match write_failures(Failures { criteria, checked }, text) {
             Ok(length) => SanityCheck {
                 verdict: Ok(Verdict::NotSound(length)),
                 validator: settled, // the ID is settled though the header fails
@@ -132,4 +133,21 @@ impl RdhCruSanityValidator {
             ..self
         }
     }
+}
+
+// Writes what fails. That is rare, and said to be, so that what a sound header goes through stands in a row.
+#[cold]
+#[inline(never)]
+fn write_failures<C: Checked>(failures: Failures<C>, text: &mut [u8]) -> Result<usize, TooShort>
+    ensures { Writes (C.failures failures.checked failures.criteria) text.old result text.new }
+{
+    write_whole(failures, text)
+}
+
+// The text itself, in a function of its own: in one that is said to be rare it would be made small, and not fast.
+#[inline(never)]
+fn write_whole<C: Checked>(failures: Failures<C>, text: &mut [u8]) -> Result<usize, TooShort>
+    ensures { Writes (C.failures failures.checked failures.criteria) text.old result text.new }
+{
+    write_text(failures, text)
 }

@@ -3,7 +3,7 @@ use Rattle.std.proofs.Common.{rules, ◌<◌, ◌^◌, ◌++◌, length}
 use Rattle.text.specs.Ascii.{ascii}
 use Rattle.text_writer.proofs.WriterLaws.{extended_then}
 use Rattle.sanity.specs.Tests.{cru_tests, failure_text, pieces, rdh0_tests, rdh1_tests, rdh2_tests, rdh3_tests, section}
-use Rattle.sanity_texts.proofs.put_words.Goals as goal
+use Rattle.sanity_texts.proofs.put_text.Goals as goal
 
 pub returns : goal.returns
 unfolding failure_text
